@@ -1,0 +1,5 @@
+pub mod Ring
+pub mod Sums
+pub mod Tables
+pub mod Lanes
+pub mod Matrices

@@ -1,0 +1,127 @@
+ghost use Rattle.std.specs.Prelude.{◌≡◌, ◌<◌, ℕ, List, length, map, replicate, slice_index_or, slice_set};
+ghost use Rattle.std.specs.Simd.Lanes.{zip2};
+ghost use Rattle.mlu_ring.specs.Lanes.{IsLists, IsLaneByLane, logical};
+
+use crate::additive::Additive;
+use crate::algebra::Algebra;
+use crate::ext_lanes::ExtLanes;
+use crate::field::Field;
+use crate::packed::{Lanewise, PackedValue};
+use crate::ring::PrimeCharacteristicRing;
+
+/// A ring whose elements are lists of `DIMENSION` coefficients in `F`, and each coefficient is
+/// linear over `F`.
+pub trait ExtensionField<F: Field>: Field + Algebra<F> {
+    type ExtensionPacking: PackedFieldExtension<F, Self>;
+
+    /// The number of coefficients.
+    const DIMENSION: usize;
+
+    ghost DIMENSION: { ℕ };
+
+    ghost coefficients: { Self → List F };
+
+    ghost of_coefficients: { List F → Self };
+
+    /// Coefficient `k`. Asks that `k` is below `DIMENSION`.
+    fn coefficient(&self, k: usize) -> F
+        requires { k < DIMENSION }
+        ensures { (d : F) → result ≡ slice_index_or (coefficients self.now) k d };
+
+    /// Puts `c` in the place of coefficient `k`. Asks that `k` is below `DIMENSION`.
+    fn set_coefficient(&mut self, k: usize, c: F)
+        requires { k < DIMENSION }
+        ensures { coefficients self.new ≡ slice_set (coefficients self.old) k c };
+
+    /// The element whose coefficient `k` is `f(k)`, which is called for 0, 1, .. in order.
+    final fn from_coefficients_fn<G: FnMut(usize) -> F>(mut f: G) -> Self
+        requires { (state : G) (k : ℕ) → G.pre state k }
+        ensures { (k : ℕ) → k < DIMENSION → (before : G) × (after : G) × G.step before k (slice_index_or (coefficients result) k F.ring.zero) after }
+    {
+        let mut element = Self::ZERO;
+        for k in 0..Self::DIMENSION {
+            let c = f(k);
+            element.set_coefficient(k, c);
+        }
+        element
+    }
+
+    ghost coefficients_are: { IsLists DIMENSION coefficients of_coefficients };
+
+    ghost coefficients_sum: { (a b : Self) → coefficients (Self.ring.sum a b) ≡ zip2 F.ring.sum (coefficients a) (coefficients b) };
+
+    ghost coefficients_scale: { (a : Self) (f : F) → coefficients (Self.ring.product a (Self.embed f)) ≡ map (λ c. F.ring.product c f) (coefficients a) };
+}
+
+/// The packed form of the extension `EF` of `F`: as many elements of `EF` side by side as a
+/// packing of `F` has lanes.
+pub trait PackedFieldExtension<F: Field, EF: ExtensionField<F>>: PrimeCharacteristicRing
+    + Algebra<EF>
+    + Algebra<F::Packing> {
+    ghost ext_lanes: { Self → List EF };
+
+    ghost of_ext_lanes: { List EF → Self };
+
+    ghost packed_coefficients: { Self → List F.Packing };
+
+    ghost of_packed_coefficients: { List F.Packing → Self };
+
+    /// The packed value with these lanes. Asks for as many values as a packing has lanes.
+    fn from_ext_slice(values: &[EF]) -> Self
+        requires { length values.now ≡ F.Packing.WIDTH }
+        ensures { ext_lanes result ≡ values.now };
+
+    /// Writes the lanes. Asks for room for as many values as a packing has lanes.
+    fn store_ext(&self, out: &mut [EF])
+        requires { length out.old ≡ F.Packing.WIDTH }
+        ensures { out.new ≡ ext_lanes self.now };
+
+    /// Lane `k`. Asks that `k` is below the width of a packing.
+    fn ext_lane(&self, k: usize) -> EF
+        requires { k < F.Packing.WIDTH }
+        ensures { (d : EF) → result ≡ slice_index_or (ext_lanes self.now) k d };
+
+    /// Coefficient `k` of every lane. Asks that `k` is below the dimension.
+    fn packed_coefficient(&self, k: usize) -> F::Packing
+        requires { k < EF.DIMENSION }
+        ensures { (d : F.Packing) → result ≡ slice_index_or (packed_coefficients self.now) k d };
+
+    /// Puts `c` in the place of coefficient `k` of every lane. Asks that `k` is below the dimension.
+    fn set_packed_coefficient(&mut self, k: usize, c: F::Packing)
+        requires { k < EF.DIMENSION }
+        ensures { packed_coefficients self.new ≡ slice_set (packed_coefficients self.old) k c };
+
+    /// The packed value whose coefficient `k` is `f(k)`, which is called for 0, 1, .. in order.
+    final fn from_packed_coefficients_fn<G: FnMut(usize) -> F::Packing>(mut f: G) -> Self
+        requires { (state : G) (k : ℕ) → G.pre state k }
+        ensures { (k : ℕ) → k < EF.DIMENSION → (before : G) × (after : G) × G.step before k (slice_index_or (packed_coefficients result) k F.Packing.ring.zero) after }
+    {
+        let mut packed = Self::ZERO;
+        for k in 0..EF::DIMENSION {
+            let c = f(k);
+            packed.set_packed_coefficient(k, c);
+        }
+        packed
+    }
+
+    /// The lanes of all packed values, in order.
+    final fn to_ext_iter(packed: &[Self]) -> ExtLanes<'_, F, EF, Self>
+        ensures { result ≡ logical ext_lanes packed.now }
+    {
+        ExtLanes::new(packed)
+    }
+
+    ghost lanes_are: { IsLists F.Packing.WIDTH ext_lanes of_ext_lanes };
+
+    ghost coefficients_are: { IsLists EF.DIMENSION packed_coefficients of_packed_coefficients };
+
+    ghost lane_by_lane: { IsLaneByLane F.Packing.WIDTH ext_lanes Self.ring EF.ring };
+
+    ghost embeds_element: { (x : EF) → ext_lanes (⟦<Self as Algebra<EF>>⟧.embed x) ≡ replicate F.Packing.WIDTH x };
+
+    ghost embeds_packing: { (p : F.Packing) → ext_lanes (⟦<Self as Algebra<F::Packing>>⟧.embed p) ≡ map EF.embed (F.Packing.lanes p) };
+
+    ghost transposed: { (p : Self) (k c : ℕ) → k < F.Packing.WIDTH → c < EF.DIMENSION
+        → slice_index_or (EF.coefficients (slice_index_or (ext_lanes p) k EF.ring.zero)) c F.ring.zero
+        ≡ slice_index_or (F.Packing.lanes (slice_index_or (packed_coefficients p) c F.Packing.ring.zero)) k F.ring.zero };
+}

@@ -1,0 +1,36 @@
+//! Rings whose laws are proved, and the mathematics that every crate above names.
+//!
+//! The traits are those of the original crate, with laws: an implementation proves them, and
+//! generic code uses nothing else. Each of them speaks of one ghost record `ring`, the operations
+//! of a commutative ring, so that a definition is stated once and holds for every type.
+//!
+//! Definitions stand in `specs/`: [`Ring`] and its laws, sums and products of lists, weights and
+//! values of tables, and what it means for a packed value to work lane by lane.
+//!
+//! Stands on `rand` alone; every other crate stands on this one.
+#![tactic(auto)]
+
+mod additive;
+mod algebra;
+mod conversion;
+pub mod each;
+mod ext_lanes;
+mod extension;
+mod field;
+mod logarithm;
+mod matrix;
+mod packed;
+mod ring;
+mod sample;
+
+pub use additive::Additive;
+pub use algebra::{Algebra, SelfAlgebra};
+pub use conversion::{MapFrom, RingMapFrom};
+pub use ext_lanes::ExtLanes;
+pub use extension::{ExtensionField, PackedFieldExtension};
+pub use field::{Field, dot4, mixed_dot4};
+pub use logarithm::{log2_ceil_usize, log2_strict_usize};
+pub use matrix::{RowMajorMatrix, RowMajorMatrixView};
+pub use packed::{Lanewise, PackedValue};
+pub use ring::PrimeCharacteristicRing;
+pub use sample::Sample;

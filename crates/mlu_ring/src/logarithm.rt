@@ -1,0 +1,36 @@
+ghost use Rattle.std.specs.Prelude.{◌≡◌, ◌^◌, ◌≤◌, ℕ, IsTrue};
+ghost use Rattle.std.specs.Int.{is_power_of_two};
+
+/// The logarithm of `n`. Asks for a power of two, which `is_power_of_two` tests.
+#[inline]
+pub fn log2_strict_usize(n: usize) -> usize
+    requires { IsTrue (is_power_of_two n) }
+    ensures { n ≡ 2 ^ result }
+{
+    n.trailing_zeros() as usize
+}
+
+/// The least `l` such that `n` is at most `2^l`.
+#[inline]
+pub fn log2_ceil_usize(n: usize) -> usize
+    ensures enough { n ≤ 2 ^ result }
+    ensures least { (l : ℕ) → n ≤ 2 ^ l → result ≤ l }
+{
+    (usize::BITS - n.saturating_sub(1).leading_zeros()) as usize
+}
+
+#[cfg(test)]
+mod tests {
+    use super::*;
+
+    #[test]
+    fn logarithms(rt: HostRuntime) {
+        assert_eq!(rt; log2_strict_usize(1), 0);
+        assert_eq!(rt; log2_strict_usize(1024), 10);
+        assert_eq!(rt; log2_ceil_usize(0), 0);
+        assert_eq!(rt; log2_ceil_usize(1), 0);
+        assert_eq!(rt; log2_ceil_usize(5), 3);
+        assert_eq!(rt; log2_ceil_usize(8), 3);
+        assert_eq!(rt; log2_ceil_usize(usize::MAX), 64);
+    }
+}

@@ -1,0 +1,176 @@
+ghost use Rattle.std.specs.Prelude.{◌≡◌, ◌+◌, ◌*◌, ◌/◌, ◌<◌, ◌≤◌, length, take, drop, slice_range};
+ghost use Rattle.mlu_ring.specs.Matrices.{AreRows};
+
+use std::alloc::AllocError;
+
+/// A matrix that owns its values, row after row.
+#[derive(Debug, PartialEq, Eq, Drop)]
+pub struct RowMajorMatrix<F> {
+    pub values: Vec<F>,
+    pub width: usize,
+    ghost rows: { AreRows (length values.items) width },
+}
+
+/// A matrix that borrows its values, row after row.
+#[derive(Debug, PartialEq, Eq)]
+pub struct RowMajorMatrixView<'a, F> {
+    pub values: &'a [F],
+    pub width: usize,
+    ghost rows: { AreRows (length values.now) width },
+}
+
+impl<F> Clone for RowMajorMatrixView<'_, F> {
+    ghost is_clone = { λ a b. a ≡ b };
+
+    fn clone(&self) -> Result<Self, AllocError> {
+        Ok(*self)
+    }
+}
+
+impl<F> Copy for RowMajorMatrixView<'_, F> {}
+
+impl<F: Copy> RowMajorMatrix<F> {
+    /// The matrix with these values. Asks that the width divides their number, and that there are
+    /// none at width 0.
+    pub fn new(values: Vec<F>, width: usize) -> Self
+        requires { AreRows (length values.items) width }
+        ensures values { result.values ≡ values }
+        ensures width { result.width ≡ width }
+    {
+        RowMajorMatrix { values, width }
+    }
+
+    /// The matrix, borrowed.
+    pub fn as_view(&self) -> RowMajorMatrixView<'_, F>
+        ensures values { result.values.now ≡ self.now.values.items }
+        ensures width { result.width ≡ self.now.width }
+    {
+        RowMajorMatrixView {
+            values: self.values.as_slice(),
+            width: self.width,
+        }
+    }
+
+    /// The number of values in a row.
+    pub fn width(&self) -> usize
+        ensures { result ≡ self.now.width }
+    {
+        self.width
+    }
+
+    /// The number of rows, which is 0 at width 0.
+    pub fn height(&self) -> usize
+        ensures { result ≡ length self.now.values.items / self.now.width }
+    {
+        self.as_view().height()
+    }
+
+    /// Row `i`. Asks that `i` is below the height.
+    pub fn row(&self, i: usize) -> &[F]
+        requires { i < length self.now.values.items / self.now.width }
+        ensures { result.now ≡ slice_range self.now.values.items (i * self.now.width) (i * self.now.width + self.now.width) }
+    {
+        self.as_view().row(i)
+    }
+
+    /// The first `i` rows, and the rows from there on. Asks that `i` is at most the height.
+    pub fn split_rows(&self, i: usize) -> (RowMajorMatrixView<'_, F>, RowMajorMatrixView<'_, F>)
+        requires { i ≤ length self.now.values.items / self.now.width }
+        ensures first { result.0.values.now ≡ take (i * self.now.width) self.now.values.items }
+        ensures rest { result.1.values.now ≡ drop (i * self.now.width) self.now.values.items }
+        ensures first_width { result.0.width ≡ self.now.width }
+        ensures rest_width { result.1.width ≡ self.now.width }
+    {
+        self.as_view().split_rows(i)
+    }
+}
+
+impl<'a, F: Copy> RowMajorMatrixView<'a, F> {
+    /// The matrix with these values. Asks that the width divides their number, and that there are
+    /// none at width 0.
+    pub fn new(values: &'a [F], width: usize) -> Self
+        requires { AreRows (length values.now) width }
+        ensures values { result.values.now ≡ values.now }
+        ensures width { result.width ≡ width }
+    {
+        RowMajorMatrixView { values, width }
+    }
+
+    /// The matrix of one column.
+    pub fn new_col(values: &'a [F]) -> Self
+        ensures values { result.values.now ≡ values.now }
+        ensures width { result.width ≡ 1 }
+    {
+        RowMajorMatrixView { values, width: 1 }
+    }
+
+    /// The number of values in a row.
+    pub fn width(&self) -> usize
+        ensures { result ≡ self.now.width }
+    {
+        self.width
+    }
+
+    /// The number of rows, which is 0 at width 0.
+    pub fn height(&self) -> usize
+        ensures { result ≡ length self.now.values.now / self.now.width }
+    {
+        self.values.len().checked_div(self.width).unwrap_or(0)
+    }
+
+    /// Row `i`. Asks that `i` is below the height.
+    pub fn row(&self, i: usize) -> &'a [F]
+        requires { i < length self.now.values.now / self.now.width }
+        ensures { result.now ≡ slice_range self.now.values.now (i * self.now.width) (i * self.now.width + self.now.width) }
+    {
+        let start = i * self.width;
+        &self.values[start..start + self.width]
+    }
+
+    /// The first `i` rows, and the rows from there on. Asks that `i` is at most the height.
+    pub fn split_rows(&self, i: usize) -> (RowMajorMatrixView<'a, F>, RowMajorMatrixView<'a, F>)
+        requires { i ≤ length self.now.values.now / self.now.width }
+        ensures first { result.0.values.now ≡ take (i * self.now.width) self.now.values.now }
+        ensures rest { result.1.values.now ≡ drop (i * self.now.width) self.now.values.now }
+        ensures first_width { result.0.width ≡ self.now.width }
+        ensures rest_width { result.1.width ≡ self.now.width }
+    {
+        let (first, rest) = self.values.split_at(i * self.width);
+        (
+            RowMajorMatrixView::new(first, self.width),
+            RowMajorMatrixView::new(rest, self.width),
+        )
+    }
+}
+
+#[cfg(test)]
+mod tests {
+    use super::*;
+    use std::test::Fail;
+
+    #[test]
+    fn rows_of_a_matrix(rt: HostRuntime) -> Result<(), Fail> {
+        let values = Vec::from_slice(rt.alloc(), &[1u32, 2, 3, 4, 5, 6])?;
+        let matrix = RowMajorMatrix::new(values, 2);
+        assert_eq!(rt; matrix.width(), 2);
+        assert_eq!(rt; matrix.height(), 3);
+        assert_eq!(rt; matrix.row(1), &[3, 4][..]);
+        let (first, rest) = matrix.split_rows(1);
+        assert_eq!(rt; first.values, &[1, 2][..]);
+        assert_eq!(rt; rest.row(1), &[5, 6][..]);
+        assert_eq!(rt; rest.height(), 2);
+        Ok(())
+    }
+
+    #[test]
+    fn a_column_and_no_column(rt: HostRuntime) {
+        let column = RowMajorMatrixView::new_col(&[7u32, 8]);
+        assert_eq!(rt; column.width(), 1);
+        assert_eq!(rt; column.height(), 2);
+        assert_eq!(rt; column.row(1), &[8][..]);
+        let none: RowMajorMatrixView<'_, u32> = RowMajorMatrixView::new(&[], 0);
+        let (first, rest) = none.split_rows(0);
+        assert_eq!(rt; first.height(), 0);
+        assert!(rt; first == rest);
+    }
+}

@@ -1,0 +1,54 @@
+ghost use Rattle.std.specs.Prelude.{◌≡◌, IfOk, if◌then◌else◌, replicate};
+
+use crate::additive::Additive;
+use std::alloc::{AllocError, Global};
+use std::ops::Mul;
+
+/// A commutative ring, with its product.
+pub trait PrimeCharacteristicRing: Additive + Mul<Self, Output = Self> {
+    /// `ONE + ONE`.
+    const TWO: Self;
+
+    /// `-ONE`.
+    const NEG_ONE: Self;
+
+    ghost TWO: { Self };
+
+    ghost NEG_ONE: { Self };
+
+    /// The element times itself.
+    #[inline]
+    final fn square(self) -> Self
+        ensures { result ≡ Self.ring.product self self }
+    {
+        self * self
+    }
+
+    /// `ONE` for true and `ZERO` for false.
+    #[inline]
+    final fn from_bool(b: bool) -> Self
+        ensures { result ≡ (if b then Self.ring.one else Self.ring.zero) }
+    {
+        if b { Self::ONE } else { Self::ZERO }
+    }
+
+    /// `len` zeros, in one growth of exactly that many elements.
+    ///
+    /// # Errors
+    /// Where the growth is refused.
+    final fn zero_vec(alloc: Global, len: usize) -> Result<Vec<Self>, AllocError>
+        ensures { IfOk result (λ zeros. zeros.items ≡ replicate len Self.ring.zero) }
+    {
+        let mut zeros = Vec::with_capacity(alloc, len)?;
+        zeros.resize(len, Self::ZERO)?;
+        Ok(zeros)
+    }
+
+    ghost can_mul_law: { (a b : Self) → Self.can_mul a b };
+
+    ghost multiplies: { (a b r : Self) → Self.mul_gives a b r → r ≡ Self.ring.product a b };
+
+    ghost two_is: { TWO ≡ Self.ring.sum Self.ring.one Self.ring.one };
+
+    ghost neg_one_is: { NEG_ONE ≡ Self.ring.negation Self.ring.one };
+}
