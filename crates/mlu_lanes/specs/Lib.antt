@@ -1,0 +1,7 @@
+pub mod Zips
+pub mod LaneRing
+pub mod Fill
+pub mod Itself
+pub mod Residues
+pub mod BabyBear
+pub mod WrappingU64

@@ -1,0 +1,35 @@
+ghost use Rattle.std.specs.Prelude.{◌≡◌, ◌<◌, ◌^◌};
+
+mod conversion;
+mod extension;
+mod field;
+mod ring;
+
+/// An integer modulo 2^64.
+///
+/// `W` is the width of its packed form.
+#[derive(Clone, Copy, Debug, PartialEq, Eq)]
+pub struct WrappingU64<const W: usize> {
+    value: u64,
+    ghost below: { value < 2 ^ 64 },
+}
+
+impl<const W: usize> WrappingU64<W> {
+    ghost use Rattle.mlu_lanes.specs.WrappingU64.{number};
+
+    /// The residue of `value`.
+    #[inline]
+    pub fn new(value: u64) -> Self
+        ensures { number result ≡ value }
+    {
+        WrappingU64 { value }
+    }
+
+    /// The integer below 2^64.
+    #[inline]
+    pub fn value(self) -> u64
+        ensures { result ≡ number self.entry }
+    {
+        self.value
+    }
+}
