@@ -1,0 +1,9 @@
+pub mod Eleven
+pub mod Quartic
+pub mod QuarticLaws
+pub mod RingMaps
+pub mod Transposed
+pub mod QuarticMaps
+pub mod QuarticPacked
+pub mod Product
+pub mod ProductMaps

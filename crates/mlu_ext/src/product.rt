@@ -1,0 +1,50 @@
+ghost use Rattle.std.specs.Prelude.{◌≡◌};
+
+use mlu_lanes::Lanes;
+use std::alloc::AllocError;
+
+mod algebra;
+mod field;
+mod itself;
+mod packed;
+mod ring;
+
+/// `D` elements of `R`, whose operators work on each for itself.
+///
+/// A ring over any ring `R`, for every `D`: of no elements, `ZERO` equals `ONE`.
+#[derive(Debug, PartialEq, Eq)]
+pub struct ProductAlgebra<R, const D: usize> {
+    copies: Lanes<R, D>,
+}
+
+impl<R: Copy, const D: usize> Clone for ProductAlgebra<R, D> {
+    ghost is_clone = { λ a b. a ≡ b };
+
+    fn clone(&self) -> Result<Self, AllocError> {
+        Ok(*self)
+    }
+}
+
+impl<R: Copy, const D: usize> Copy for ProductAlgebra<R, D> {}
+
+impl<R: Copy, const D: usize> ProductAlgebra<R, D> {
+    ghost use Rattle.mlu_ext.specs.Product.{entries_of};
+
+    /// The element with these entries.
+    #[inline]
+    pub fn from_array(entries: [R; D]) -> Self
+        ensures { entries_of result ≡ entries }
+    {
+        ProductAlgebra {
+            copies: Lanes::from_array(entries),
+        }
+    }
+
+    /// The entries in order.
+    #[inline]
+    pub fn to_array(self) -> [R; D]
+        ensures { result ≡ entries_of self }
+    {
+        self.copies.to_array()
+    }
+}

@@ -1,0 +1,141 @@
+ghost use Rattle.std.specs.Prelude.{◌≡◌, refl};
+ghost use Rattle.mlu_lanes.specs.LaneRing.{lane_ring, lane_laws, splat, splat_is_ring_map};
+ghost use Rattle.mlu_lanes.specs.Itself.{identity_is_ring_map};
+ghost use Rattle.mlu_ext.specs.Quartic.{constant, quartic, quartic_coefficients, quartic_map};
+ghost use Rattle.mlu_ext.specs.QuarticLaws.{constant_is_ring_map};
+ghost use Rattle.mlu_ext.specs.QuarticMaps.{quartic_map_is_ring_map};
+
+use super::QuarticExtension;
+use crate::coefficients::Coefficients;
+use mlu_lanes::Lanes;
+use mlu_ring::{
+    Additive, Algebra, MapFrom, PrimeCharacteristicRing, RingMapFrom, Sample, SelfAlgebra,
+};
+use rand::RngExt;
+
+impl<R> QuarticExtension<R> {
+    /// `c0 + c1 X + c2 X^2 + c3 X^3`.
+    #[inline]
+    pub fn new(c0: R, c1: R, c2: R, c3: R) -> Self
+        ensures { result ≡ quartic c0 c1 c2 c3 }
+    {
+        QuarticExtension { c0, c1, c2, c3 }
+    }
+}
+
+impl<R: Copy> Coefficients<R> for QuarticExtension<R> {
+    ghost count = { 4 };
+
+    ghost list = { quartic_coefficients };
+
+    #[inline]
+    fn at(&self, k: usize) -> R {
+        match k {
+            0 => self.c0,
+            1 => self.c1,
+            2 => self.c2,
+            _ => self.c3,
+        }
+    }
+
+    #[inline]
+    fn put(&mut self, k: usize, c: R) {
+        match k {
+            0 => self.c0 = c,
+            1 => self.c1 = c,
+            2 => self.c2 = c,
+            _ => self.c3 = c,
+        }
+    }
+}
+
+impl<R: PrimeCharacteristicRing> Algebra<QuarticExtension<R>> for QuarticExtension<R> {
+    ghost embed = { λ b. b };
+
+    #[inline]
+    fn from_base(b: Self) -> Self {
+        b
+    }
+
+    #[inline]
+    fn scale(self, b: Self) -> Self {
+        self * b
+    }
+
+    #[inline]
+    fn plus(self, b: Self) -> Self {
+        self + b
+    }
+
+    ghost keeps = { identity_is_ring_map Self.ring };
+}
+
+impl<R: PrimeCharacteristicRing> SelfAlgebra for QuarticExtension<R> {
+    ghost embeds_itself = { λ x. refl };
+}
+
+/// An element of `R` stands for the constant polynomial.
+impl<R: PrimeCharacteristicRing> Algebra<R> for QuarticExtension<R> {
+    ghost embed = { constant R.ring.zero };
+
+    #[inline]
+    fn from_base(b: R) -> Self {
+        QuarticExtension::new(b, R::ZERO, R::ZERO, R::ZERO)
+    }
+
+    // Four products in place of sixteen.
+    #[inline]
+    fn scale(self, b: R) -> Self {
+        QuarticExtension::new(self.c0 * b, self.c1 * b, self.c2 * b, self.c3 * b)
+    }
+
+    #[inline]
+    fn plus(self, b: R) -> Self {
+        QuarticExtension::new(self.c0 + b, self.c1, self.c2, self.c3)
+    }
+
+    ghost keeps = { constant_is_ring_map R.ring R.Additive.laws };
+}
+
+/// An element stands for itself in every lane.
+impl<F: PrimeCharacteristicRing, const W: usize> Algebra<QuarticExtension<F>>
+    for QuarticExtension<Lanes<F, W>> {
+    ghost embed = { quartic_map (splat W) };
+
+    #[inline]
+    fn from_base(b: QuarticExtension<F>) -> Self {
+        QuarticExtension {
+            c0: Lanes::from_base(b.c0),
+            c1: Lanes::from_base(b.c1),
+            c2: Lanes::from_base(b.c2),
+            c3: Lanes::from_base(b.c3),
+        }
+    }
+
+    ghost keeps = { quartic_map_is_ring_map F.ring (lane_ring W F.ring) (splat W) F.Additive.laws (lane_laws W F.ring F.Additive.laws) (splat_is_ring_map W F.ring) };
+}
+
+impl<R: Additive> MapFrom<R> for QuarticExtension<R> {
+    ghost image = { constant R.ring.zero };
+
+    #[inline]
+    fn map(x: R) -> Self {
+        QuarticExtension::new(x, R::ZERO, R::ZERO, R::ZERO)
+    }
+}
+
+impl<R: Additive> RingMapFrom<R> for QuarticExtension<R> {
+    ghost keeps_ring = { constant_is_ring_map R.ring R.Additive.laws };
+}
+
+/// Draws the coefficients in order.
+impl<R: Sample> Sample for QuarticExtension<R> {
+    fn sample<G: RngExt>(rng: &mut G) -> Self {
+        QuarticExtension {
+            c0: R::sample(rng),
+            c1: R::sample(rng),
+            c2: R::sample(rng),
+            c3: R::sample(rng),
+        }
+    }
+}

@@ -1,0 +1,89 @@
+ghost use Rattle.std.specs.Prelude.{◌∷◌, [], refl};
+ghost use Rattle.mlu_lanes.specs.LaneRing.{values_of, splat, lane_by_lane};
+ghost use Rattle.mlu_lanes.specs.Fill.{packed_of, lanes_are_lists};
+ghost use Rattle.mlu_lanes.specs.Itself.{only_of, one_coefficient, map_itself, only_transposed};
+ghost use Rattle.mlu_lanes.specs.BabyBear.{baby_bear_ring};
+ghost use Rattle.mlu_ext.specs.Quartic.{quartic_ring};
+
+use super::QuarticExtension;
+use mlu_lanes::{BabyBear, Lanes};
+use mlu_ring::{ExtensionField, PackedFieldExtension, PackedValue};
+
+impl<const W: usize> ExtensionField<QuarticExtension<BabyBear<W>>>
+    for QuarticExtension<BabyBear<W>> {
+    type ExtensionPacking = Lanes<Self, 1>;
+
+    const DIMENSION: usize = 1;
+
+    ghost DIMENSION = { 1 };
+
+    ghost coefficients = { λ a. a ∷ [] };
+
+    ghost of_coefficients = { only_of (quartic_ring (baby_bear_ring W)).zero };
+
+    #[inline]
+    fn coefficient(&self, _k: usize) -> Self {
+        *self
+    }
+
+    #[inline]
+    fn set_coefficient(&mut self, _k: usize, c: Self) {
+        *self = c;
+    }
+
+    ghost coefficients_are = { one_coefficient (quartic_ring (baby_bear_ring W)).zero };
+
+    ghost coefficients_sum = { λ a b. refl };
+
+    ghost coefficients_scale = { λ a f. refl };
+}
+
+impl<const W: usize> PackedFieldExtension<
+    QuarticExtension<BabyBear<W>>,
+    QuarticExtension<BabyBear<W>>,
+> for Lanes<QuarticExtension<BabyBear<W>>, 1> {
+    ghost ext_lanes = { values_of };
+
+    ghost of_ext_lanes = { packed_of 1 (quartic_ring (baby_bear_ring W)).zero };
+
+    ghost packed_coefficients = { λ p. p ∷ [] };
+
+    ghost of_packed_coefficients = { only_of (splat 1 (quartic_ring (baby_bear_ring W)).zero) };
+
+    #[inline]
+    fn from_ext_slice(values: &[QuarticExtension<BabyBear<W>>]) -> Self {
+        PackedValue::load(values)
+    }
+
+    #[inline]
+    fn store_ext(&self, out: &mut [QuarticExtension<BabyBear<W>>]) {
+        PackedValue::store(self, out)
+    }
+
+    #[inline]
+    fn ext_lane(&self, k: usize) -> QuarticExtension<BabyBear<W>> {
+        PackedValue::lane(self, k)
+    }
+
+    #[inline]
+    fn packed_coefficient(&self, _k: usize) -> Self {
+        *self
+    }
+
+    #[inline]
+    fn set_packed_coefficient(&mut self, _k: usize, c: Self) {
+        *self = c;
+    }
+
+    ghost lanes_are = { lanes_are_lists 1 (quartic_ring (baby_bear_ring W)).zero };
+
+    ghost coefficients_are = { one_coefficient (splat 1 (quartic_ring (baby_bear_ring W)).zero) };
+
+    ghost lane_by_lane = { lane_by_lane 1 (quartic_ring (baby_bear_ring W)) };
+
+    ghost embeds_element = { λ x. refl };
+
+    ghost embeds_packing = { λ p. map_itself (values_of p) };
+
+    ghost transposed = { λ p k c h i. only_transposed (quartic_ring (baby_bear_ring W)).zero (splat 1 (quartic_ring (baby_bear_ring W)).zero) values_of p k c i };
+}

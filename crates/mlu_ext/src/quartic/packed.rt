@@ -1,0 +1,73 @@
+ghost use Rattle.mlu_lanes.specs.LaneRing.{lane_ring};
+ghost use Rattle.mlu_lanes.specs.BabyBear.{baby_bear_ring, baby_bear_laws};
+ghost use Rattle.mlu_ext.specs.Quartic.{quartic_coefficients, quartic_of};
+ghost use Rattle.mlu_ext.specs.QuarticPacked.{quartic_elements, quartic_of_elements, elements_are_lists, elements_by_lane, elements-splat, elements-constant, elements_transposed};
+ghost use Rattle.mlu_ext.specs.QuarticMaps.{quartic_are_lists};
+
+use super::QuarticExtension;
+use crate::coefficients::{Coefficients, column};
+use mlu_lanes::{BabyBear, LaneWidth, Lanes};
+use mlu_ring::{PackedFieldExtension, PackedValue};
+
+impl<const W: usize> PackedFieldExtension<BabyBear<W>, QuarticExtension<BabyBear<W>>>
+    for QuarticExtension<Lanes<BabyBear<W>, W>>
+where
+    Lanes<BabyBear<W>, W>: LaneWidth<W>,
+{
+    ghost ext_lanes = { quartic_elements W (baby_bear_ring W).zero };
+
+    ghost of_ext_lanes = { quartic_of_elements W (baby_bear_ring W).zero };
+
+    ghost packed_coefficients = { quartic_coefficients };
+
+    ghost of_packed_coefficients = { quartic_of (lane_ring W (baby_bear_ring W)).zero };
+
+    #[inline]
+    fn from_ext_slice(values: &[QuarticExtension<BabyBear<W>>]) -> Self {
+        QuarticExtension {
+            c0: column(values, 0),
+            c1: column(values, 1),
+            c2: column(values, 2),
+            c3: column(values, 3),
+        }
+    }
+
+    #[inline]
+    fn store_ext(&self, out: &mut [QuarticExtension<BabyBear<W>>]) {
+        for k in 0..W {
+            out[k] = self.ext_lane(k);
+        }
+    }
+
+    #[inline]
+    fn ext_lane(&self, k: usize) -> QuarticExtension<BabyBear<W>> {
+        QuarticExtension {
+            c0: self.c0.lane(k),
+            c1: self.c1.lane(k),
+            c2: self.c2.lane(k),
+            c3: self.c3.lane(k),
+        }
+    }
+
+    #[inline]
+    fn packed_coefficient(&self, k: usize) -> Lanes<BabyBear<W>, W> {
+        self.at(k)
+    }
+
+    #[inline]
+    fn set_packed_coefficient(&mut self, k: usize, c: Lanes<BabyBear<W>, W>) {
+        self.put(k, c);
+    }
+
+    ghost lanes_are = { elements_are_lists W (baby_bear_ring W).zero };
+
+    ghost coefficients_are = { quartic_are_lists (lane_ring W (baby_bear_ring W)).zero };
+
+    ghost lane_by_lane = { elements_by_lane W (baby_bear_ring W) (baby_bear_laws W) };
+
+    ghost embeds_element = { elements-splat W (baby_bear_ring W).zero };
+
+    ghost embeds_packing = { elements-constant W (baby_bear_ring W).zero };
+
+    ghost transposed = { λ p k c h i. elements_transposed W (baby_bear_ring W).zero p k c h i };
+}

@@ -1,0 +1,167 @@
+ghost use Rattle.std.specs.Prelude.{◌≡◌, ◌∷◌, []};
+ghost use Rattle.mlu_ring.specs.Tables.{pair};
+ghost use Rattle.mlu_ext.specs.Eleven.{eleven};
+ghost use Rattle.mlu_ext.specs.Quartic.{constant, quartic_coefficients, quartic_ring};
+ghost use Rattle.mlu_ext.specs.QuarticLaws.{quartic_laws, quartic_same, quartic_eq, constant_two, constant_neg_one};
+
+use super::QuarticExtension;
+use mlu_ring::{Additive, PrimeCharacteristicRing};
+use std::ops::{Add, Mul, Neg, Sub};
+
+impl<R: Additive> Add for QuarticExtension<R> {
+    type Output = Self;
+
+    ghost add_gives = { λ a b r. r ≡ (quartic_ring R.ring).sum a b };
+
+    #[inline]
+    fn add(self, rhs: Self) -> Self {
+        QuarticExtension {
+            c0: self.c0 + rhs.c0,
+            c1: self.c1 + rhs.c1,
+            c2: self.c2 + rhs.c2,
+            c3: self.c3 + rhs.c3,
+        }
+    }
+}
+
+impl<R: Additive> Sub for QuarticExtension<R> {
+    type Output = Self;
+
+    ghost sub_gives = { λ a b r. r ≡ (quartic_ring R.ring).minus a b };
+
+    #[inline]
+    fn sub(self, rhs: Self) -> Self {
+        QuarticExtension {
+            c0: self.c0 - rhs.c0,
+            c1: self.c1 - rhs.c1,
+            c2: self.c2 - rhs.c2,
+            c3: self.c3 - rhs.c3,
+        }
+    }
+}
+
+impl<R: Additive> Neg for QuarticExtension<R> {
+    type Output = Self;
+
+    ghost neg_gives = { λ a r. r ≡ (quartic_ring R.ring).negation a };
+
+    #[inline]
+    fn neg(self) -> Self {
+        QuarticExtension {
+            c0: -self.c0,
+            c1: -self.c1,
+            c2: -self.c2,
+            c3: -self.c3,
+        }
+    }
+}
+
+impl<R: PrimeCharacteristicRing> Mul for QuarticExtension<R> {
+    type Output = Self;
+
+    ghost mul_gives = { λ a b r. r ≡ (quartic_ring R.ring).product a b };
+
+    // 16 products of R and 27 additions: 12 of the products, and 5 for each of three times 11.
+    #[inline]
+    fn mul(self, rhs: Self) -> Self {
+        let QuarticExtension { c0, c1, c2, c3 } = rhs;
+        let r1 = times_eleven(c1);
+        let r2 = times_eleven(c2);
+        let r3 = times_eleven(c3);
+        QuarticExtension {
+            c0: self.dot(c0, r3, r2, r1),
+            c1: self.dot(c1, c0, r3, r2),
+            c2: self.dot(c2, c1, c0, r3),
+            c3: self.dot(c3, c2, c1, c0),
+        }
+    }
+}
+
+impl<R: Additive> Additive for QuarticExtension<R> {
+    ghost ring = { quartic_ring R.ring };
+
+    const ZERO: Self = QuarticExtension {
+        c0: R::ZERO,
+        c1: R::ZERO,
+        c2: R::ZERO,
+        c3: R::ZERO,
+    };
+
+    const ONE: Self = QuarticExtension {
+        c0: R::ONE,
+        c1: R::ZERO,
+        c2: R::ZERO,
+        c3: R::ZERO,
+    };
+
+    ghost ZERO = { constant R.ZERO R.ZERO };
+
+    ghost ONE = { constant R.ZERO R.ONE };
+
+    ghost laws = { quartic_laws R.ring R.Additive.laws };
+
+    ghost zero_is = { quartic_same R.zero_is R.zero_is R.zero_is R.zero_is };
+
+    ghost one_is = { quartic_same R.one_is R.zero_is R.zero_is R.zero_is };
+
+    ghost eq_is = { quartic_eq R.eq R.eq_is };
+
+    ghost can_add_law = { λ a b. tt };
+
+    ghost adds = { λ a b r h. h };
+
+    ghost can_sub_law = { λ a b. tt };
+
+    ghost subtracts = { λ a b r h. h };
+
+    ghost can_neg_law = { λ a. tt };
+
+    ghost negates = { λ a r h. h };
+}
+
+impl<R: PrimeCharacteristicRing> PrimeCharacteristicRing for QuarticExtension<R> {
+    const TWO: Self = QuarticExtension {
+        c0: R::TWO,
+        c1: R::ZERO,
+        c2: R::ZERO,
+        c3: R::ZERO,
+    };
+
+    const NEG_ONE: Self = QuarticExtension {
+        c0: R::NEG_ONE,
+        c1: R::ZERO,
+        c2: R::ZERO,
+        c3: R::ZERO,
+    };
+
+    ghost TWO = { constant R.ZERO R.TWO };
+
+    ghost NEG_ONE = { constant R.ZERO R.NEG_ONE };
+
+    ghost can_mul_law = { λ a b. tt };
+
+    ghost multiplies = { λ a b r h. h };
+
+    ghost two_is = { constant_two R.ring R.Additive.laws R.zero_is R.two_is };
+
+    ghost neg_one_is = { constant_neg_one R.ring R.Additive.laws R.zero_is R.neg_one_is };
+}
+
+// Eleven times x, as 8 x + 2 x + x.
+#[inline]
+fn times_eleven<R: Additive>(x: R) -> R
+    ensures { result ≡ R.ring.product (eleven R.ring) x }
+{
+    let two = x.double();
+    two.double().double() + two + x
+}
+
+impl<R: PrimeCharacteristicRing> QuarticExtension<R> {
+    // The sum of the products of the coefficients with b0 to b3, in order.
+    #[inline]
+    fn dot(self, b0: R, b1: R, b2: R, b3: R) -> R
+        ensures { result ≡ pair R.ring (quartic_coefficients self) (b0 ∷ b1 ∷ b2 ∷ b3 ∷ []) }
+    {
+        self.c0 * b0 + self.c1 * b1 + (self.c2 * b2 + self.c3 * b3)
+    }
+}

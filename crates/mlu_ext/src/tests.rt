@@ -1,0 +1,2 @@
+//! Worked values.
+mod rows;
