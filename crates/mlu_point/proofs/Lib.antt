@@ -1,0 +1,7 @@
+pub mod Tables
+pub mod Suffixes
+pub mod Equality
+pub mod Selection
+pub mod Expansion
+pub mod Transposes
+pub mod Batches

@@ -1,0 +1,4 @@
+pub mod Orders
+pub mod Views
+pub mod Factors
+pub mod Powers

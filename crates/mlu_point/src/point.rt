@@ -1,0 +1,12 @@
+//! Points, owned and borrowed: the same calls, with one body each.
+
+mod coordinates;
+mod evaluation;
+mod order;
+mod owned;
+mod table;
+mod view;
+
+pub use order::BitOrder;
+pub use owned::Point;
+pub use view::PointView;

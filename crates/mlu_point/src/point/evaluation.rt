@@ -1,0 +1,144 @@
+//! Points made from a number or an element, and values at a point that need no table.
+ghost use Rattle.std.specs.Prelude.{◌≡◌, ◌-◌, ◌^◌, ◌<◌, ◌++◌, ℕ, [], length, map, flat_map, slice_index_or, EachIndex, IfOk, if◌then◌else◌};
+ghost use Rattle.mlu_ring.specs.Tables.{weights, value, vertex, powers};
+ghost use Rattle.mlu_ring.specs.Matrices.{dimension, transposed};
+ghost use Rattle.mlu_point.specs.Powers.{powers_below};
+ghost use Rattle.mlu_point.specs.Factors.{eq_factor, power_factor};
+
+use super::owned::Point;
+use super::table::bit_at;
+use mlu_ring::{ExtensionField, Field, RowMajorMatrix};
+use std::alloc::{AllocError, Global};
+
+impl<F: Field> Point<F> {
+    /// The vertex of an index: coordinate `i` is bit `n - 1 - i` of `value`, and missing high bits
+    /// are zero. Asks that `value` is below `2^n` where `n` is below the bits of `usize`.
+    ///
+    /// # Errors
+    /// Where memory is refused.
+    pub fn hypercube(alloc: Global, value: usize, n: usize) -> Result<Self, AllocError>
+        requires { n < 64 → value < 2 ^ n }
+        ensures { IfOk result (λ point. point ≡ vertex F.ring n value) }
+    {
+        let mut coords = Vec::with_capacity(alloc, n)?;
+        for i in 0..n {
+            let bit = bit_at(value, n - 1 - i);
+            coords.push(F::from_bool(bit == 1))?;
+        }
+        Ok(Point::new(coords))
+    }
+
+    /// The point `(y^(2^(n-1)), .., y^2, y)`, at which a table has the value at `y` of the
+    /// polynomial with its entries as coefficients.
+    ///
+    /// # Errors
+    /// Where memory is refused.
+    pub fn expand_from_univariate(alloc: Global, y: F, n: usize) -> Result<Self, AllocError>
+        ensures { IfOk result (λ point. point ≡ powers F.ring y n) }
+    {
+        let mut coords = F::zero_vec(alloc, n)?;
+        fill_powers(coords.as_mut_slice(), y);
+        Ok(Point::new(coords))
+    }
+
+    /// The value at `q` of the equality table of `p`. Asks for equal lengths.
+    pub fn eval_eq<EF: ExtensionField<F>>(p: &[F], q: &[EF]) -> EF
+        requires { length p.now ≡ length q.now }
+        ensures { result ≡ value EF.ring (map EF.embed (weights F.ring p.now)) q.now }
+    {
+        let mut product = EF::ONE;
+        for i in 0..p.len() {
+            product = product * equality_factor(p[i], q[i]);
+        }
+        product
+    }
+
+    /// The value at the point of the table `1, var, var^2, ..` of all powers below `2^n`.
+    pub fn eval_select<EF: ExtensionField<F>>(var: F, point: &[EF]) -> EF
+        ensures { result ≡ value EF.ring (map EF.embed (powers_below F.ring var (2 ^ length point.now))) point.now }
+    {
+        let mut power = var;
+        let mut product = EF::ONE;
+        for k in 0..point.len() {
+            let place = point.len() - 1 - k;
+            product = select_factor(point[place], power) * product;
+            power = power.square();
+        }
+        product
+    }
+
+    /// The matrix whose row `j` is coordinate `j` of each point, or coordinate `k - 1 - j` of `k`
+    /// where `rev_order`. Asks for one point or more, of equal lengths.
+    ///
+    /// # Errors
+    /// Where memory is refused.
+    pub fn transpose(
+        alloc: Global,
+        points: &[Self],
+        rev_order: bool,
+    ) -> Result<RowMajorMatrix<F>, AllocError>
+        requires some { 0 < length points.now }
+        requires equal { EachIndex points.now (λ i. length (slice_index_or points.now i []) ≡ dimension points.now) }
+        ensures values { IfOk result (λ matrix. matrix.values.items ≡ flat_map (λ row. row) (transposed F.ring points.now rev_order)) }
+        ensures width { IfOk result (λ matrix. matrix.width ≡ length points.now) }
+    {
+        let k = points[0].num_variables();
+        let size = k.checked_mul(points.len()).ok_or(AllocError)?;
+        let mut values = Vec::with_capacity(alloc, size)?;
+        for j in 0..k {
+            push_coordinates(&mut values, points, source_of(j, k, rev_order))?;
+        }
+        Ok(RowMajorMatrix::new(values, points.len()))
+    }
+}
+
+/// What two coordinates give to the value of an equality table: both one, or both zero.
+#[inline]
+fn equality_factor<F: Field, EF: ExtensionField<F>>(p: F, q: EF) -> EF
+    ensures { result ≡ eq_factor F.ring EF.ring EF.embed p q }
+{
+    q.double().scale(p).plus(F::ONE - p) - q
+}
+
+/// What a coordinate gives to the value of a table of powers.
+#[inline]
+fn select_factor<F: Field, EF: ExtensionField<F>>(coordinate: EF, power: F) -> EF
+    ensures { result ≡ power_factor F.ring EF.ring EF.embed coordinate power }
+{
+    coordinate.scale(power - F::ONE) + EF::ONE
+}
+
+/// Writes `y` to the last place, and to each other place the square of the one after it.
+fn fill_powers<F: Field>(out: &mut [F], y: F)
+    ensures { out.new ≡ powers F.ring y (length out.old) }
+{
+    let mut power = y;
+    for k in 0..out.len() {
+        let place = out.len() - 1 - k;
+        out[place] = power;
+        power = power.square();
+    }
+}
+
+/// The coordinate that row `j` lists.
+fn source_of(j: usize, k: usize, reversed: bool) -> usize
+    requires { j < k }
+    ensures { result ≡ (if reversed then k - 1 - j else j) }
+{
+    if reversed { k - 1 - j } else { j }
+}
+
+/// Appends one coordinate of each point. Asks that each has it.
+fn push_coordinates<F: Field>(
+    values: &mut Vec<F>,
+    points: &[Point<F>],
+    place: usize,
+) -> Result<(), AllocError>
+    requires { EachIndex points.now (λ i. place < length (slice_index_or points.now i [])) }
+    ensures { IfOk result (λ _. values.new.items ≡ values.old.items ++ map (λ point. slice_index_or point place F.ring.zero) points.now) }
+{
+    for point in points {
+        values.push(point[place])?;
+    }
+    Ok(())
+}

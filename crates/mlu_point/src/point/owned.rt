@@ -1,0 +1,240 @@
+ghost use Rattle.std.specs.Prelude.{◌≡◌, ◌^◌, ◌<◌, ◌≤◌, ◌++◌, [], length, take, drop, reverse, slice_index_or, slice_range, is_ok, if◌then◌else◌, IfOk, MatchOption};
+ghost use Rattle.std.specs.declared.alloc.Global.{Global};
+ghost use Rattle.std.specs.Cmp.Lexicographic.{pointwise, lists_per, lists_equiv};
+ghost use Rattle.std.specs.Slice.Iter.{iter_rest, iter_steps};
+ghost use Rattle.std.specs.Vec.Iter.{into_iter_items, into_iter_steps};
+ghost use Rattle.std.specs.Iterator.Runs.{EveryRun, ItemsMapTo, ItemsAre};
+ghost use Rattle.mlu_ring.specs.Tables.{weight, weights, lsb};
+
+use super::view::PointView;
+use mlu_ring::{Field, Sample};
+use rand::RngExt;
+use std::alloc::{AllocError, Global};
+use std::marker::Model;
+use std::ops::{Index, Range};
+use std::{slice, vec};
+
+/// A point that owns its coordinates.
+#[derive(Debug, Drop)]
+pub struct Point<F> {
+    coords: Vec<F>,
+}
+
+impl<F> Model for Point<F> {
+    ghost use Rattle.std.specs.Prelude.{List};
+
+    ghost Value = { List F };
+
+    ghost view = { λ point. point.coords.items };
+}
+
+impl<F: Copy> Point<F> {
+    ghost use Rattle.mlu_point.specs.Views.{coordinates};
+
+    /// The point with these coordinates.
+    #[inline]
+    pub fn new(coords: Vec<F>) -> Self
+        ensures { result ≡ coords.items }
+    {
+        Point { coords }
+    }
+
+    /// The point of no coordinates.
+    pub fn empty(alloc: Global) -> Self
+        ensures { result ≡ [] }
+    {
+        Point {
+            coords: Vec::new(alloc),
+        }
+    }
+
+    /// An equal point.
+    ///
+    /// # Errors
+    /// Where memory is refused.
+    pub fn try_clone(&self, alloc: Global) -> Result<Self, AllocError>
+        ensures { IfOk result (λ point. point ≡ self.now) }
+    {
+        Ok(Point::new(Vec::from_slice(alloc, self.as_slice())?))
+    }
+
+    /// The number of coordinates.
+    #[inline]
+    pub fn num_variables(&self) -> usize
+        ensures { result ≡ length self.now }
+    {
+        self.coords.len()
+    }
+
+    /// The coordinates.
+    #[inline]
+    pub fn as_slice(&self) -> &[F]
+        ensures { result.now ≡ self.now }
+    {
+        self.coords.as_slice()
+    }
+
+    /// A view of the coordinates.
+    #[inline]
+    pub fn as_view(&self) -> PointView<'_, F>
+        ensures { coordinates result ≡ self.now }
+    {
+        PointView::new(self.as_slice())
+    }
+
+    /// An iterator over the coordinates.
+    #[inline]
+    pub fn iter(&self) -> slice::Iter<'_, F>
+        ensures rest { iter_rest result ≡ self.now }
+        ensures runs { EveryRun (iter_steps {A = F}) (λ p. ItemsMapTo p (λ y. y.now) (iter_rest p.from)) }
+    {
+        self.coords.iter()
+    }
+
+    /// Appends the coordinates of `other`.
+    ///
+    /// # Errors
+    /// Where memory is refused; the point is as before then.
+    pub fn extend(&mut self, other: PointView<'_, F>) -> Result<(), AllocError>
+        ensures { self.new ≡ (if is_ok result then self.old ++ coordinates other.entry else self.old) }
+    {
+        self.coords.extend_from_slice(other.into_slice())
+    }
+
+    /// The point of the coordinates in a range. Asks that the range is one of the coordinates.
+    ///
+    /// # Errors
+    /// Where memory is refused.
+    pub fn get_subpoint_over_range(
+        &self,
+        alloc: Global,
+        range: Range<usize>,
+    ) -> Result<Self, AllocError>
+        requires order { range.start ≤ range.end }
+        requires end { range.end ≤ length self.now }
+        ensures { IfOk result (λ point. point ≡ slice_range self.now range.start range.end) }
+    {
+        self.as_view().get_subpoint_over_range(alloc, range)
+    }
+
+    /// The point with the coordinates from last to first.
+    ///
+    /// # Errors
+    /// Where memory is refused.
+    pub fn reversed(&self, alloc: Global) -> Result<Self, AllocError>
+        ensures { IfOk result (λ point. point ≡ reverse self.now) }
+    {
+        self.as_view().reversed(alloc)
+    }
+
+    /// The points of the first `pos` coordinates and of the others. Asks that there are so many.
+    ///
+    /// # Errors
+    /// Where memory is refused.
+    pub fn split_at(&self, alloc: Global, pos: usize) -> Result<(Self, Self), AllocError>
+        requires { pos ≤ length self.now }
+        ensures first { IfOk result (λ halves. halves.0 ≡ take pos self.now) }
+        ensures rest { IfOk result (λ halves. halves.1 ≡ drop pos self.now) }
+    {
+        self.as_view().split_at(alloc, pos)
+    }
+}
+
+impl<F: Field> Point<F> {
+    /// The weights of all vertices by their indexes: coordinate 0 reads the highest bit. Asks that
+    /// `2^n` fits `usize`.
+    ///
+    /// # Errors
+    /// Where the one growth of exactly `2^n` elements is refused.
+    pub fn equality_weights_msb(&self, alloc: Global) -> Result<Vec<F>, AllocError>
+        requires { 2 ^ length self.now < 2 ^ 64 }
+        ensures { IfOk result (λ table. table.items ≡ weights F.ring self.now) }
+    {
+        self.as_view().equality_weights_msb(alloc)
+    }
+
+    /// The weights of all vertices in the order of their reversed index bits: coordinate 0 reads
+    /// the lowest bit. Asks that `2^n` fits `usize`.
+    ///
+    /// # Errors
+    /// Where the one growth of exactly `2^n` elements is refused.
+    pub fn equality_weights_lsb(&self, alloc: Global) -> Result<Vec<F>, AllocError>
+        requires { 2 ^ length self.now < 2 ^ 64 }
+        ensures { IfOk result (λ table. table.items ≡ lsb F.ring self.now) }
+    {
+        self.as_view().equality_weights_lsb(alloc)
+    }
+
+    /// The weight of the vertex, and `None` where it is at least `2^n`.
+    pub fn equality_at_vertex(&self, vertex: usize) -> Option<F>
+        ensures { MatchOption result (2 ^ length self.now ≤ vertex) (λ w. (vertex < 2 ^ length self.now) × (w ≡ weight F.ring self.now vertex)) }
+    {
+        self.as_view().equality_at_vertex(vertex)
+    }
+}
+
+impl<F: Sample + Copy + Drop> Point<F> {
+    /// A point of `n` drawn coordinates. Which ones come is not promised.
+    ///
+    /// # Errors
+    /// Where memory is refused.
+    pub fn rand<R: RngExt>(alloc: Global, rng: &mut R, n: usize) -> Result<Self, AllocError>
+        ensures { IfOk result (λ point. length point ≡ n) }
+    {
+        let mut coords = Vec::with_capacity(alloc, n)?;
+        for _ in 0..n {
+            coords.push(F::sample(rng))?;
+        }
+        Ok(Point::new(coords))
+    }
+}
+
+impl<F: PartialEq> PartialEq for Point<F> {
+    ghost eq = { λ a b. pointwise F.eq a b };
+
+    ghost laws = { lists_per F.laws };
+
+    fn eq(&self, other: &Self) -> bool {
+        self.coords == other.coords
+    }
+}
+
+impl<F: Eq> Eq for Point<F> {
+    ghost laws = { lists_equiv F.Eq.laws };
+}
+
+impl<F> Index<usize> for Point<F> {
+    type Output = F;
+
+    ghost can_index = { λ point i. i < length point };
+
+    ghost index_gives = { λ point i x. x ≡ slice_index_or point i x };
+
+    fn index(&self, index: usize) -> &F {
+        &self.coords[index]
+    }
+}
+
+impl<'a, F> IntoIterator for &'a Point<F> {
+    type Item = &'a F;
+
+    type IntoIter = slice::Iter<'a, F>;
+
+    ghost into_iter_gives = { λ point r. (iter_rest r ≡ point.now) × EveryRun (iter_steps {A = F}) (λ p. ItemsMapTo p (λ y. y.now) (iter_rest p.from)) };
+
+    fn into_iter(self) -> slice::Iter<'a, F> {
+        self.coords.iter()
+    }
+}
+
+impl<F: Drop> IntoIterator for Point<F> {
+    type Item = F;
+
+    type IntoIter = vec::IntoIter<F>;
+
+    ghost into_iter_gives = { λ point r. (into_iter_items r ≡ point) × EveryRun (into_iter_steps {X = F} {Z = Global}) (λ p. ItemsAre p (into_iter_items p.from)) };
+
+    fn into_iter(self) -> vec::IntoIter<F> {
+        self.coords.into_iter()
+    }
+}

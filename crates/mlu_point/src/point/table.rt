@@ -1,0 +1,109 @@
+//! Equality tables, doubled in place.
+ghost use Rattle.std.specs.Prelude.{◌≡◌, ◌↔◌, ◌+◌, ◌/◌, ◌%◌, ◌^◌, ◌<◌, ◌≤◌, IsTrue, length, map, IfOk, MatchOption};
+ghost use Rattle.mlu_ring.specs.Tables.{factor, weight};
+ghost use Rattle.mlu_point.specs.Orders.{weights_by, with_top};
+
+use super::order::BitOrder;
+use mlu_ring::PrimeCharacteristicRing;
+use std::alloc::{AllocError, Global};
+
+/// Splits each weight of `low` by a coordinate: its share at 1 goes to `high`, and the rest stays.
+#[inline]
+fn double<R: PrimeCharacteristicRing>(low: &mut [R], high: &mut [R], coordinate: R)
+    requires { length low.old ≡ length high.old }
+    ensures upper { high.new ≡ map (λ w. R.ring.product w coordinate) low.old }
+    ensures lower { low.new ≡ map (λ w. R.ring.minus w (R.ring.product w coordinate)) low.old }
+{
+    for i in 0..low.len() {
+        let share = low[i] * coordinate;
+        high[i] = share;
+        low[i] = low[i] - share;
+    }
+}
+
+/// The coordinate that reads the top bit of an index, and the others.
+fn split_top<R: Copy>(coords: &[R], order: BitOrder) -> Option<(&R, &[R])>
+    ensures split { MatchOption result (length coords.now ≡ 0) (λ split. coords.now ≡ with_top order split.0.now split.1.now) }
+    ensures others { MatchOption result (length coords.now ≡ 0) (λ split. length coords.now ≡ length split.1.now + 1) }
+{
+    match order {
+        BitOrder::Msb => coords.split_first(),
+        BitOrder::Lsb => coords.split_last(),
+    }
+}
+
+/// Writes the scale times each weight. Asks for room for `2^n` weights.
+pub fn fill<R: PrimeCharacteristicRing>(out: &mut [R], coords: &[R], order: BitOrder, scale: R)
+    requires { length out.old ≡ 2 ^ length coords.now }
+    ensures { out.new ≡ map (λ w. R.ring.product scale w) (weights_by order R.ring coords.now) }
+{
+    match split_top(coords, order) {
+        None => out[0] = scale,
+        Some((coordinate, others)) => {
+            let half = out.len() / 2;
+            let (low, high) = out.split_at_mut(half);
+            fill(low, others, order, scale);
+            double(low, high, *coordinate);
+        }
+    }
+}
+
+/// The weights of all vertices, in one growth of exactly `2^n` elements.
+pub fn equality_table<R: PrimeCharacteristicRing>(
+    alloc: Global,
+    coords: &[R],
+    order: BitOrder,
+) -> Result<Vec<R>, AllocError>
+    requires { 2 ^ length coords.now < 2 ^ 64 }
+    ensures { IfOk result (λ table. table.items ≡ weights_by order R.ring coords.now) }
+{
+    let mut table = R::zero_vec(alloc, 1 << coords.len())?;
+    fill(table.as_mut_slice(), coords, order, R::ONE);
+    Ok(table)
+}
+
+/// The weight of one vertex, and `None` where it is no vertex of the cube.
+pub fn weight_at<R: PrimeCharacteristicRing>(coords: &[R], vertex: usize) -> Option<R>
+    ensures { MatchOption result (2 ^ length coords.now ≤ vertex) (λ w. (vertex < 2 ^ length coords.now) × (w ≡ weight R.ring coords.now vertex)) }
+{
+    if !is_vertex(vertex, coords.len()) {
+        return None;
+    }
+    let mut weight = R::ONE;
+    for k in 0..coords.len() {
+        let share = share_at(coords[coords.len() - 1 - k], bit_at(vertex, k));
+        weight = share * weight;
+    }
+    Some(weight)
+}
+
+/// What a coordinate gives to a weight at a bit of the vertex.
+#[inline]
+fn share_at<R: PrimeCharacteristicRing>(coordinate: R, bit: usize) -> R
+    ensures { result ≡ factor R.ring bit coordinate }
+{
+    if bit == 1 {
+        coordinate
+    } else {
+        R::ONE - coordinate
+    }
+}
+
+/// Whether a cube of `n` variables has the vertex. One of 64 or more has every `usize`.
+fn is_vertex(vertex: usize, n: usize) -> bool
+    ensures { IsTrue result ↔ vertex < 2 ^ n }
+{
+    n >= usize::BITS as usize || vertex >> n == 0
+}
+
+/// The bit of a number at a place, which is 0 from place 64 on.
+#[inline]
+pub fn bit_at(number: usize, place: usize) -> usize
+    ensures { result ≡ number / 2 ^ place % 2 }
+{
+    if place < usize::BITS as usize {
+        (number >> place) % 2
+    } else {
+        0
+    }
+}

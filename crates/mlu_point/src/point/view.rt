@@ -1,0 +1,196 @@
+ghost use Rattle.std.specs.Prelude.{◌≡◌, [], ◌<◌, length, slice_index_or};
+
+use super::coordinates::{reversed, subrange};
+use super::order::BitOrder;
+use super::owned::Point;
+use super::table::{equality_table, weight_at};
+use mlu_ring::Field;
+use std::alloc::{AllocError, Global};
+use std::ops::{Index, Range};
+use std::slice;
+
+/// A point that borrows its coordinates.
+#[derive(Debug, PartialEq, Eq)]
+pub struct PointView<'a, F> {
+    coords: &'a [F],
+}
+
+impl<F> Clone for PointView<'_, F> {
+    ghost is_clone = { λ a b. a ≡ b };
+
+    fn clone(&self) -> Result<Self, AllocError> {
+        Ok(*self)
+    }
+}
+
+impl<F> Copy for PointView<'_, F> {}
+
+impl<F> Default for PointView<'_, F> {
+    ghost is_default = { λ view. view.coords.now ≡ [] };
+
+    fn default() -> Self {
+        PointView { coords: &[] }
+    }
+}
+
+impl<'a, F: Copy> PointView<'a, F> {
+    ghost use Rattle.std.specs.Prelude.{◌≡◌, ◌≤◌, length, take, drop, reverse, slice_range, IfOk};
+    ghost use Rattle.std.specs.Slice.Iter.{iter_rest, iter_steps};
+    ghost use Rattle.std.specs.Iterator.Runs.{EveryRun, ItemsMapTo};
+    ghost use Rattle.mlu_point.specs.Views.{coordinates};
+
+    /// The point with these coordinates.
+    #[inline]
+    pub fn new(coords: &'a [F]) -> Self
+        ensures { coordinates result ≡ coords.now }
+    {
+        PointView { coords }
+    }
+
+    /// The number of coordinates.
+    #[inline]
+    pub fn num_variables(&self) -> usize
+        ensures { result ≡ length (coordinates self.now) }
+    {
+        self.coords.len()
+    }
+
+    /// The coordinates.
+    #[inline]
+    pub fn as_slice(&self) -> &[F]
+        ensures { result.now ≡ coordinates self.now }
+    {
+        self.coords
+    }
+
+    /// The coordinates, for as long as what they were borrowed from lives.
+    #[inline]
+    pub fn into_slice(self) -> &'a [F]
+        ensures { result.now ≡ coordinates self.entry }
+    {
+        self.coords
+    }
+
+    /// A view of the same coordinates.
+    #[inline]
+    pub fn as_view(&self) -> PointView<'_, F>
+        ensures { coordinates result ≡ coordinates self.now }
+    {
+        *self
+    }
+
+    /// An iterator over the coordinates.
+    #[inline]
+    pub fn iter(&self) -> slice::Iter<'_, F>
+        ensures rest { iter_rest result ≡ coordinates self.now }
+        ensures runs { EveryRun (iter_steps {A = F}) (λ p. ItemsMapTo p (λ y. y.now) (iter_rest p.from)) }
+    {
+        self.coords.iter()
+    }
+
+    /// The point of the coordinates in a range. Asks that the range is one of the coordinates.
+    ///
+    /// # Errors
+    /// Where memory is refused.
+    pub fn get_subpoint_over_range(
+        &self,
+        alloc: Global,
+        range: Range<usize>,
+    ) -> Result<Point<F>, AllocError>
+        requires order { range.start ≤ range.end }
+        requires end { range.end ≤ length (coordinates self.now) }
+        ensures { IfOk result (λ point. point ≡ slice_range (coordinates self.now) range.start range.end) }
+    {
+        Ok(Point::new(subrange(alloc, self.coords, range)?))
+    }
+
+    /// The point with the coordinates from last to first.
+    ///
+    /// # Errors
+    /// Where memory is refused.
+    pub fn reversed(&self, alloc: Global) -> Result<Point<F>, AllocError>
+        ensures { IfOk result (λ point. point ≡ reverse (coordinates self.now)) }
+    {
+        Ok(Point::new(reversed(alloc, self.coords)?))
+    }
+
+    /// The points of the first `pos` coordinates and of the others. Asks that there are so many.
+    ///
+    /// # Errors
+    /// Where memory is refused.
+    pub fn split_at(&self, alloc: Global, pos: usize) -> Result<(Point<F>, Point<F>), AllocError>
+        requires { pos ≤ length (coordinates self.now) }
+        ensures first { IfOk result (λ halves. halves.0 ≡ take pos (coordinates self.now)) }
+        ensures rest { IfOk result (λ halves. halves.1 ≡ drop pos (coordinates self.now)) }
+    {
+        let (first, rest) = self.coords.split_at(pos);
+        let first = Vec::from_slice(alloc, first)?;
+        let rest = Vec::from_slice(alloc, rest)?;
+        Ok((Point::new(first), Point::new(rest)))
+    }
+}
+
+impl<F: Field> PointView<'_, F> {
+    ghost use Rattle.std.specs.Prelude.{◌≡◌, ◌^◌, ◌<◌, ◌≤◌, length, IfOk, MatchOption};
+    ghost use Rattle.mlu_ring.specs.Tables.{weight, weights, lsb};
+    ghost use Rattle.mlu_point.specs.Views.{coordinates};
+
+    /// The weights of all vertices by their indexes: coordinate 0 reads the highest bit. Asks that
+    /// `2^n` fits `usize`.
+    ///
+    /// # Errors
+    /// Where the one growth of exactly `2^n` elements is refused.
+    pub fn equality_weights_msb(&self, alloc: Global) -> Result<Vec<F>, AllocError>
+        requires { 2 ^ length (coordinates self.now) < 2 ^ 64 }
+        ensures { IfOk result (λ table. table.items ≡ weights F.ring (coordinates self.now)) }
+    {
+        equality_table(alloc, self.coords, BitOrder::Msb)
+    }
+
+    /// The weights of all vertices in the order of their reversed index bits: coordinate 0 reads
+    /// the lowest bit. Asks that `2^n` fits `usize`.
+    ///
+    /// # Errors
+    /// Where the one growth of exactly `2^n` elements is refused.
+    pub fn equality_weights_lsb(&self, alloc: Global) -> Result<Vec<F>, AllocError>
+        requires { 2 ^ length (coordinates self.now) < 2 ^ 64 }
+        ensures { IfOk result (λ table. table.items ≡ lsb F.ring (coordinates self.now)) }
+    {
+        equality_table(alloc, self.coords, BitOrder::Lsb)
+    }
+
+    /// The weight of the vertex, and `None` where it is at least `2^n`.
+    pub fn equality_at_vertex(&self, vertex: usize) -> Option<F>
+        ensures { MatchOption result (2 ^ length (coordinates self.now) ≤ vertex) (λ w. (vertex < 2 ^ length (coordinates self.now)) × (w ≡ weight F.ring (coordinates self.now) vertex)) }
+    {
+        weight_at(self.coords, vertex)
+    }
+}
+
+impl<F> Index<usize> for PointView<'_, F> {
+    type Output = F;
+
+    ghost can_index = { λ view i. i < length view.coords.now };
+
+    ghost index_gives = { λ view i x. x ≡ slice_index_or view.coords.now i x };
+
+    fn index(&self, index: usize) -> &F {
+        &self.coords[index]
+    }
+}
+
+impl<'a, F> IntoIterator for &'a PointView<'_, F> {
+    ghost use Rattle.std.specs.Prelude.{◌≡◌};
+    ghost use Rattle.std.specs.Slice.Iter.{iter_rest, iter_steps};
+    ghost use Rattle.std.specs.Iterator.Runs.{EveryRun, ItemsMapTo};
+
+    type Item = &'a F;
+
+    type IntoIter = slice::Iter<'a, F>;
+
+    ghost into_iter_gives = { λ view r. (iter_rest r ≡ view.now.coords.now) × EveryRun (iter_steps {A = F}) (λ p. ItemsMapTo p (λ y. y.now) (iter_rest p.from)) };
+
+    fn into_iter(self) -> slice::Iter<'a, F> {
+        self.coords.iter()
+    }
+}
