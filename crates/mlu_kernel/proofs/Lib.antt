@@ -1,0 +1,3 @@
+pub mod DoubleSums
+pub mod Blocks
+pub mod PlusRows

@@ -1,0 +1,17 @@
+-- The sums that the kernels compute.
+use Rattle.std.specs.Prelude.{◌+◌, ◌*◌, List, map, length, slice_index_or}
+use Rattle.std.specs.List.{range_with_len}
+use Rattle.mlu_ring.specs.Ring.{Ring}
+use Rattle.mlu_ring.specs.Sums.{sum_below}
+
+-- the sum over j and i of rows[j] times w[i] times e[j * n + i], where n is the length of w
+unfoldable pub double_sum : {R : Type 0} → Ring R → List R → List R → List R → R
+double_sum ring rows w e =
+    let n = length w in
+    sum_below ring (length rows) (λ j. sum_below ring n (λ i. ring.product (ring.product (slice_index_or rows j ring.zero) (slice_index_or w i ring.zero)) (slice_index_or e (j * n + i) ring.zero)))
+
+-- entry z is old[z] plus the sum over y of w[y] times e[y * s + z], where s is the length of old
+unfoldable pub plus_rows : {R : Type 0} → Ring R → List R → List R → List R → List R
+plus_rows ring old w e =
+    let s = length old in
+    map (λ z. ring.sum (slice_index_or old z ring.zero) (sum_below ring (length w) (λ y. ring.product (slice_index_or w y ring.zero) (slice_index_or e (y * s + z) ring.zero)))) (range_with_len 0 s)

@@ -1,0 +1,21 @@
+//! The two kernels that join packed weights with a table of base elements.
+//!
+//! [`compress_hi_dot_packed`] sums the entries of a chunk, each times the weight of its row and
+//! the weight of its column; [`compress_prefix_to_packed_packed`] adds the rows of a chunk, each
+//! times its weight, to a packed output. The weights of the columns, or of the rows, come packed:
+//! their lanes, joined in order, are the logical weights that the contracts name.
+//!
+//! Each kernel has an eager form, which reduces each product at once and serves every width and
+//! dimension. None of them takes memory.
+//!
+//! Stands on `mlu_ring`; the split tables of `mlu_eq` stand on it.
+#![tactic(auto)]
+
+mod dot;
+mod prefix;
+
+pub use dot::{compress_hi_dot_packed, compress_hi_dot_packed_eager};
+pub use prefix::{compress_prefix_to_packed_packed, compress_prefix_to_packed_packed_kernel_eager};
+
+#[cfg(test)]
+mod tests;
