@@ -1,0 +1,10 @@
+use Rattle.std.proofs.Common.{◌≡◌, ℕ, ◌+◌, ◌*◌, ◌<◌, length, get_or}
+use Rattle.mlu_eq.specs.Combine.{interpolated}
+use Rattle.mlu_eq.proofs.suffix.fold_suffix_by_base.Given as goal
+
+abbrev pub invariant-loop-i : goal.invariant-loop-i
+invariant-loop-i g l =
+    record {
+      size : length l.folded.items ≡ l.half;
+      done : (k : ℕ) (d : g.row.F.Denot) → k < l.i → get_or l.folded.items k d ≡ interpolated g.F.Additive.ring (g.F.Algebra.embed l.r) (get_or l.entries (2 * k) d) (get_or l.entries (2 * k + 1) d);
+    }

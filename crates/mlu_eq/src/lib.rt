@@ -1,0 +1,27 @@
+//! Evaluation and folds of tables, as functions over slices, and the laws of the value of a table.
+//!
+//! A table of `n` variables is a slice of `2^n` entries; coordinate 0 reads the top bit of an
+//! index. Evaluation is the recursion on the first variable. A prefix fold puts a value in place
+//! of the first variable, so it joins the two halves; a suffix fold puts it in place of the last
+//! one, so it joins entries side by side.
+//!
+//! Each call is stated by the definitions of `mlu_ring` alone: the value, `front` and `back`.
+//! Nothing takes memory but the calls that are handed an allocator.
+//!
+//! Stands on `mlu_ring`; the polynomials stand on this crate.
+#![tactic(auto)]
+
+mod evaluation;
+pub mod laws;
+mod line;
+mod prefix;
+mod suffix;
+#[cfg(test)]
+mod tests;
+
+pub use evaluation::{eval_base, eval_ext};
+pub use prefix::{
+    fold_monomial_in_place, fold_prefix, fold_prefix_at, fold_prefix_in_place,
+    fold_prefix_to_packed, sum_halves_in_place,
+};
+pub use suffix::{fold_suffix, fold_suffix_by_base, fold_suffix_in_place};

@@ -1,0 +1,40 @@
+//! Two entries of a table joined in one, with one product.
+//!
+//! The calls on the line through two values differ in what is embedded: nothing, the values, or
+//! `r`. Where one factor is a base element, so is the product's cost.
+ghost use Rattle.std.specs.Prelude.{◌≡◌};
+ghost use Rattle.mlu_eq.specs.Combine.{combined, interpolated};
+
+use mlu_ring::{Additive, Algebra, PrimeCharacteristicRing};
+
+/// `low + r * (high - low)`.
+#[inline]
+pub fn interpolate<R: PrimeCharacteristicRing>(low: R, high: R, r: R) -> R
+    ensures { result ≡ interpolated R.ring r low high }
+{
+    low + r * (high - low)
+}
+
+/// The same of the images of two base elements.
+#[inline]
+pub fn interpolate_base<F: Additive, EF: Algebra<F>>(low: F, high: F, r: EF) -> EF
+    ensures { result ≡ interpolated EF.ring r (EF.embed low) (EF.embed high) }
+{
+    r.scale(high - low).plus(low)
+}
+
+/// The same at the image of a base element.
+#[inline]
+pub fn interpolate_at_base<R: Additive, F: Algebra<R>>(low: F, high: F, r: R) -> F
+    ensures { result ≡ interpolated F.ring (F.embed r) low high }
+{
+    low + (high - low).scale(r)
+}
+
+/// The sum of `low` and the product of `high` with the image of `r`.
+#[inline]
+pub fn add_scaled<R: Additive, F: Algebra<R>>(low: F, high: F, r: R) -> F
+    ensures { result ≡ combined F.ring F.ring.one (F.embed r) low high }
+{
+    low + high.scale(r)
+}

@@ -1,0 +1,115 @@
+//! Folds of the first variable, which join the two halves of a table.
+//!
+//! Where the number of entries is odd, the last one is left out.
+ghost use Rattle.std.specs.Prelude.{◌≡◌, ◌+◌, ◌<◌, ◌≤◌, ◌/◌, ◌%◌, [], ◌∷◌, IfOk, drop, length, map, slice_index_or, take};
+ghost use Rattle.mlu_ring.specs.Lanes.{logical};
+ghost use Rattle.mlu_ring.specs.Tables.{front, line};
+
+use crate::line::{add_scaled, interpolate_at_base, interpolate_base};
+use mlu_ring::{
+    Additive, Algebra, ExtensionField, Field, PackedFieldExtension, PackedValue,
+    PrimeCharacteristicRing,
+};
+use std::alloc::{AllocError, Global};
+
+/// The table folded at `r`: entry `i` is `low[i] + r * (high[i] - low[i])`, where `low` and `high`
+/// are the two halves.
+///
+/// # Errors
+/// Where the memory for half a table is refused.
+pub fn fold_prefix<F: Additive, EF: Algebra<F>>(
+    alloc: Global,
+    entries: &[F],
+    r: EF,
+) -> Result<Vec<EF>, AllocError>
+    ensures { IfOk result (λ folded. folded.items ≡ front EF.ring (line EF.ring r) (map EF.embed entries.now)) }
+{
+    let half = entries.len() / 2;
+    let mut folded = EF::zero_vec(alloc, half)?;
+    for i in 0..half {
+        folded[i] = fold_prefix_at(entries, r, i);
+    }
+    Ok(folded)
+}
+
+/// Entry `index` of the table folded at `r`. Asks that `index` is below half the table.
+#[inline]
+pub fn fold_prefix_at<F: Additive, EF: Algebra<F>>(entries: &[F], r: EF, index: usize) -> EF
+    requires { index < length entries.now / 2 }
+    ensures { (d : EF) → result ≡ slice_index_or (front EF.ring (line EF.ring r) (map EF.embed entries.now)) index d }
+{
+    let half = entries.len() / 2;
+    interpolate_base(entries[index], entries[half + index], r)
+}
+
+/// The table folded at `r`, in packed form: its entries are the lanes, joined in order.
+///
+/// Asks for a whole number of packings in half a table.
+///
+/// # Errors
+/// Where the memory for half a table is refused.
+pub fn fold_prefix_to_packed<F: Field, EF: ExtensionField<F>>(
+    alloc: Global,
+    entries: &[F],
+    r: EF,
+) -> Result<Vec<EF::ExtensionPacking>, AllocError>
+    requires { (length entries.now / 2) % F.Packing.WIDTH ≡ 0 }
+    ensures { IfOk result (λ folded. logical EF.ExtensionPacking.ext_lanes folded.items ≡ front EF.ring (line EF.ring r) (map EF.embed entries.now)) }
+{
+    let width = <F::Packing as PackedValue>::WIDTH;
+    let groups = entries.len() / 2 / width;
+    let mut folded = EF::ExtensionPacking::zero_vec(alloc, groups)?;
+    for i in 0..groups {
+        folded[i] = fold_group_at::<F, EF>(entries, r, i * width);
+    }
+    Ok(folded)
+}
+
+/// The packing of the entries from `start` on of the table folded at `r`.
+#[inline]
+fn fold_group_at<F: Field, EF: ExtensionField<F>>(
+    entries: &[F],
+    r: EF,
+    start: usize,
+) -> EF::ExtensionPacking
+    requires { start + F.Packing.WIDTH ≤ length entries.now / 2 }
+    ensures { EF.ExtensionPacking.ext_lanes result ≡ take F.Packing.WIDTH (drop start (front EF.ring (line EF.ring r) (map EF.embed entries.now))) }
+{
+    let end = start + <F::Packing as PackedValue>::WIDTH;
+    let (low, high) = entries.split_at(entries.len() / 2);
+    interpolate_base(
+        F::Packing::load(&low[start..end]),
+        F::Packing::load(&high[start..end]),
+        <EF::ExtensionPacking as Algebra<EF>>::from_base(r),
+    )
+}
+
+/// Folds the table at `r` into its lower half: entry `i` becomes `low[i] + r * (high[i] - low[i])`.
+pub fn fold_prefix_in_place<R: Additive, F: Algebra<R>>(entries: &mut [F], r: R)
+    ensures { take (length entries.old / 2) entries.new ≡ front F.ring (line F.ring (F.embed r)) entries.old }
+{
+    let half = entries.len() / 2;
+    for i in 0..half {
+        entries[i] = interpolate_at_base(entries[i], entries[half + i], r);
+    }
+}
+
+/// Folds the table at `r` into its lower half, its entries read as coefficients of monomials:
+/// entry `i` becomes `low[i] + r * high[i]`.
+pub fn fold_monomial_in_place<R: Additive, F: Algebra<R>>(entries: &mut [F], r: R)
+    ensures { take (length entries.old / 2) entries.new ≡ front F.ring (F.ring.one ∷ F.embed r ∷ []) entries.old }
+{
+    let half = entries.len() / 2;
+    for i in 0..half {
+        entries[i] = add_scaled(entries[i], entries[half + i], r);
+    }
+}
+
+/// Adds the upper half of the table to its lower half.
+pub fn sum_halves_in_place<F: Additive>(entries: &mut [F])
+    ensures { take (length entries.old / 2) entries.new ≡ front F.ring (F.ring.one ∷ F.ring.one ∷ []) entries.old }
+{
+    let half = entries.len() / 2;
+    let (low, high) = entries.split_at_mut(half);
+    F::add_each(low, &high[..half]);
+}

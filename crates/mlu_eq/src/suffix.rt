@@ -1,0 +1,57 @@
+//! Folds of the last variable, which join the entries of a table that stand side by side.
+//!
+//! Where the number of entries is odd, the last one is left out.
+ghost use Rattle.std.specs.Prelude.{◌≡◌, ◌/◌, IfOk, length, map, take};
+ghost use Rattle.mlu_ring.specs.Tables.{back, line};
+
+use crate::line::{interpolate_at_base, interpolate_base};
+use mlu_ring::{Additive, Algebra, PrimeCharacteristicRing};
+use std::alloc::{AllocError, Global};
+
+/// The table folded at `r`: entry `i` is `e[2i] + r * (e[2i + 1] - e[2i])`.
+///
+/// # Errors
+/// Where the memory for half a table is refused.
+pub fn fold_suffix<F: Additive, EF: Algebra<F>>(
+    alloc: Global,
+    entries: &[F],
+    r: EF,
+) -> Result<Vec<EF>, AllocError>
+    ensures { IfOk result (λ folded. folded.items ≡ back EF.ring (line EF.ring r) (map EF.embed entries.now)) }
+{
+    let half = entries.len() / 2;
+    let mut folded = EF::zero_vec(alloc, half)?;
+    for i in 0..half {
+        folded[i] = interpolate_base(entries[2 * i], entries[2 * i + 1], r);
+    }
+    Ok(folded)
+}
+
+/// The table folded at a base element `r`.
+///
+/// # Errors
+/// Where the memory for half a table is refused.
+pub fn fold_suffix_by_base<R: Additive, F: Algebra<R>>(
+    alloc: Global,
+    entries: &[F],
+    r: R,
+) -> Result<Vec<F>, AllocError>
+    ensures { IfOk result (λ folded. folded.items ≡ back F.ring (line F.ring (F.embed r)) entries.now) }
+{
+    let half = entries.len() / 2;
+    let mut folded = F::zero_vec(alloc, half)?;
+    for i in 0..half {
+        folded[i] = interpolate_at_base(entries[2 * i], entries[2 * i + 1], r);
+    }
+    Ok(folded)
+}
+
+/// Folds the table at `r` into its lower half: entry `i` becomes `e[2i] + r * (e[2i + 1] - e[2i])`.
+pub fn fold_suffix_in_place<R: Additive, F: Algebra<R>>(entries: &mut [F], r: R)
+    ensures { take (length entries.old / 2) entries.new ≡ back F.ring (line F.ring (F.embed r)) entries.old }
+{
+    let half = entries.len() / 2;
+    for i in 0..half {
+        entries[i] = interpolate_at_base(entries[2 * i], entries[2 * i + 1], r);
+    }
+}
