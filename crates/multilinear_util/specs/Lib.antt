@@ -1,0 +1,4 @@
+pub mod Views
+pub mod Lending
+pub mod Thresholds
+pub mod Storage

@@ -1,0 +1,57 @@
+//! Tables of scalars as tables of packed elements, and back.
+ghost use Rattle.std.specs.Prelude.{◌≡◌, ◌*◌, ◌%◌, length, IfOk};
+ghost use Rattle.mlu_ring.specs.Lanes.{logical};
+
+use mlu_ring::{
+    ExtensionField, Field, Lanewise, PackedFieldExtension, PackedValue, PrimeCharacteristicRing,
+};
+use std::alloc::{AllocError, Global};
+
+/// The packed elements whose lanes, joined in order, are `evals`. Asks for whole groups of lanes.
+pub(crate) fn packed<F: Field, EF: ExtensionField<F>>(
+    alloc: Global,
+    evals: &[EF],
+) -> Result<Vec<EF::ExtensionPacking>, AllocError>
+    requires { length evals.now % F.Packing.WIDTH ≡ 0 }
+    ensures { IfOk result (λ elements. logical EF.ExtensionPacking.ext_lanes elements.items ≡ evals.now) }
+{
+    let width = <F::Packing as PackedValue>::WIDTH;
+    let groups = evals.len() / width;
+    let mut elements = EF::ExtensionPacking::zero_vec(alloc, groups)?;
+    for i in 0..groups {
+        let start = i * width;
+        elements[i] = EF::ExtensionPacking::from_ext_slice(&evals[start..start + width]);
+    }
+    Ok(elements)
+}
+
+/// Writes the lanes of `elements`, joined in order. Asks for exact room.
+pub(crate) fn unpack_into<F: Field, EF: ExtensionField<F>>(
+    elements: &[EF::ExtensionPacking],
+    out: &mut [EF],
+)
+    requires { length out.old ≡ length elements.now * F.Packing.WIDTH }
+    ensures { out.new ≡ logical EF.ExtensionPacking.ext_lanes elements.now }
+{
+    let width = <F::Packing as PackedValue>::WIDTH;
+    for (i, element) in elements.iter().enumerate() {
+        let start = i * width;
+        element.store_ext(&mut out[start..start + width]);
+    }
+}
+
+/// The lanes of `elements`, joined in order. Fails too where their number does not fit a word.
+pub(crate) fn unpacked<F: Field, EF: ExtensionField<F>>(
+    alloc: Global,
+    elements: &[EF::ExtensionPacking],
+) -> Result<Vec<EF>, AllocError>
+    ensures { IfOk result (λ evals. evals.items ≡ logical EF.ExtensionPacking.ext_lanes elements.now) }
+{
+    let width = <F::Packing as PackedValue>::WIDTH;
+    let Some(count) = elements.len().checked_mul(width) else {
+        return Err(AllocError);
+    };
+    let mut evals = EF::zero_vec(alloc, count)?;
+    unpack_into::<F, EF>(elements, evals.as_mut_slice());
+    Ok(evals)
+}

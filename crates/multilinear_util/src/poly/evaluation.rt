@@ -1,0 +1,131 @@
+//! The value of a polynomial at a point.
+ghost use Rattle.std.specs.Prelude.{◌≡◌, ◌+◌, ◌<◌, ◌*◌, ◌^◌, length, map, IfOk, IsOk};
+ghost use Rattle.mlu_ring.specs.Lanes.{logical};
+ghost use Rattle.mlu_ring.specs.Tables.{value};
+ghost use Rattle.multilinear_util.specs.Thresholds.{threshold};
+ghost use Rattle.multilinear_util.specs.Views.{entries};
+
+use super::Poly;
+use super::view::PolyView;
+use crate::packing;
+use mlu_eq::{eval_base, eval_ext};
+use mlu_point::point::Point;
+use mlu_ring::{ExtensionField, Field};
+use std::alloc::{AllocError, Global};
+
+impl<F: Field> PolyView<'_, F> {
+    /// The value at a point of the extension `EF`. Asks for a point with as many coordinates as
+    /// there are variables. Takes no memory below 9 variables where a value of the table takes at most 4 bytes,
+    /// else below 10.
+    ///
+    /// # Errors
+    /// Where memory is refused.
+    pub fn eval_base<EF: ExtensionField<F>>(
+        &self,
+        _alloc: Global,
+        point: &Point<EF>,
+    ) -> Result<EF, AllocError>
+        requires { length (entries self.now) ≡ 2 ^ length point.now }
+        ensures value { IfOk result (λ x. x ≡ value EF.ring (map EF.embed (entries self.now)) point.now) }
+        ensures small { length point.now < threshold F.bytes_of → IsOk result }
+    {
+        Ok(eval_base(self.as_slice(), point.as_slice()))
+    }
+
+    /// The value at a point of the table's own field, an extension of `BaseField`. Asks for a point
+    /// with as many coordinates as there are variables. Takes no memory below 9 variables where an
+    /// element of `BaseField` takes at most 4 bytes, else below 10.
+    ///
+    /// # Errors
+    /// Where memory is refused.
+    pub fn eval_ext<BaseField: Field>(
+        &self,
+        _alloc: Global,
+        point: &Point<F>,
+    ) -> Result<F, AllocError>
+    where
+        F: ExtensionField<BaseField>,
+        requires { length (entries self.now) ≡ 2 ^ length point.now }
+        ensures value { IfOk result (λ x. x ≡ value F.ring (entries self.now) point.now) }
+        ensures small { length point.now < threshold BaseField.bytes_of → IsOk result }
+    {
+        Ok(eval_ext(self.as_slice(), point.as_slice()))
+    }
+}
+
+impl<A: Copy> PolyView<'_, A> {
+    /// The value of the table of the lanes, joined in order. Asks for a point with as many
+    /// coordinates as that table has variables.
+    ///
+    /// # Errors
+    /// Where memory is refused.
+    pub fn eval_packed<F: Field, EF: ExtensionField<F, ExtensionPacking = A>>(
+        &self,
+        alloc: Global,
+        point: &Point<EF>,
+    ) -> Result<EF, AllocError>
+        requires { length (entries self.now) * F.Packing.WIDTH ≡ 2 ^ length point.now }
+        ensures { IfOk result (λ x. x ≡ value EF.ring (logical A.ext_lanes (entries self.now)) point.now) }
+    {
+        let evals = packing::unpacked::<F, EF>(alloc, self.as_slice())?;
+        Ok(eval_ext(evals.as_slice(), point.as_slice()))
+    }
+}
+
+impl<F: Field> Poly<F> {
+    /// The value at a point of the extension `EF`. Asks for a point with as many coordinates as
+    /// there are variables. Takes no memory below 9 variables where a value of the table takes at
+    /// most 4 bytes, else below 10.
+    ///
+    /// # Errors
+    /// Where memory is refused.
+    pub fn eval_base<EF: ExtensionField<F>>(
+        &self,
+        alloc: Global,
+        point: &Point<EF>,
+    ) -> Result<EF, AllocError>
+        requires { length self.now ≡ 2 ^ length point.now }
+        ensures value { IfOk result (λ x. x ≡ value EF.ring (map EF.embed self.now) point.now) }
+        ensures small { length point.now < threshold F.bytes_of → IsOk result }
+    {
+        self.as_view().eval_base(alloc, point)
+    }
+
+    /// The value at a point of the table's own field, an extension of `BaseField`. Asks for a point
+    /// with as many coordinates as there are variables. Takes no memory below 9 variables where an
+    /// element of `BaseField` takes at most 4 bytes, else below 10.
+    ///
+    /// # Errors
+    /// Where memory is refused.
+    pub fn eval_ext<BaseField: Field>(
+        &self,
+        alloc: Global,
+        point: &Point<F>,
+    ) -> Result<F, AllocError>
+    where
+        F: ExtensionField<BaseField>,
+        requires { length self.now ≡ 2 ^ length point.now }
+        ensures value { IfOk result (λ x. x ≡ value F.ring self.now point.now) }
+        ensures small { length point.now < threshold BaseField.bytes_of → IsOk result }
+    {
+        self.as_view().eval_ext::<BaseField>(alloc, point)
+    }
+}
+
+impl<A: Copy> Poly<A> {
+    /// The value of the table of the lanes, joined in order. Asks for a point with as many
+    /// coordinates as that table has variables.
+    ///
+    /// # Errors
+    /// Where memory is refused.
+    pub fn eval_packed<F: Field, EF: ExtensionField<F, ExtensionPacking = A>>(
+        &self,
+        alloc: Global,
+        point: &Point<EF>,
+    ) -> Result<EF, AllocError>
+        requires { length self.now * F.Packing.WIDTH ≡ 2 ^ length point.now }
+        ensures { IfOk result (λ x. x ≡ value EF.ring (logical A.ext_lanes self.now) point.now) }
+    {
+        self.as_view().eval_packed::<F, EF>(alloc, point)
+    }
+}

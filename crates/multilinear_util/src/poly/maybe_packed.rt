@@ -1,0 +1,124 @@
+//! A polynomial over an extension, with scalar or packed storage.
+use super::Poly;
+use super::view::PolyView;
+use mlu_point::point::Point;
+use mlu_ring::{ExtensionField, Field, Lanewise, PackedValue};
+use std::alloc::{AllocError, Global};
+
+/// A polynomial that owns its values, as scalars or in packed form.
+#[derive(Debug, Drop)]
+pub enum PolyMaybePacked<F: Field, EF: ExtensionField<F>> {
+    Scalar(Poly<EF>),
+    Packed(Poly<EF::ExtensionPacking>),
+}
+
+/// A polynomial that borrows its values, as scalars or in packed form.
+#[derive(Debug)]
+pub enum PolyMaybePackedView<'a, F: Field, EF: ExtensionField<F>> {
+    Scalar(PolyView<'a, EF>),
+    Packed(PolyView<'a, EF::ExtensionPacking>),
+}
+
+impl<F: Field, EF: ExtensionField<F>> Clone for PolyMaybePackedView<'_, F, EF> {
+    ghost use Rattle.std.specs.Prelude.{◌≡◌};
+
+    ghost is_clone = { λ a b. a ≡ b };
+
+    fn clone(&self) -> Result<Self, AllocError> {
+        Ok(*self)
+    }
+}
+
+impl<F: Field, EF: ExtensionField<F>> Copy for PolyMaybePackedView<'_, F, EF> {}
+
+impl<F: Field, EF: ExtensionField<F>> From<Poly<EF>> for PolyMaybePacked<F, EF> {
+    ghost use Rattle.std.specs.Prelude.{◌≡◌};
+    ghost use Rattle.multilinear_util.specs.declared.poly.maybe_packed.PolyMaybePacked.TheVariants.{Scalar};
+
+    ghost from_gives = { λ poly table. table ≡ Scalar poly };
+
+    fn from(poly: Poly<EF>) -> Self {
+        PolyMaybePacked::Scalar(poly)
+    }
+}
+
+impl<F: Field, EF: ExtensionField<F>> PolyMaybePacked<F, EF> {
+    ghost use Rattle.std.specs.Prelude.{◌≡◌, ◌^◌, ◌<◌, length, IfOk, IsOk, MatchResult};
+    ghost use Rattle.mlu_ring.specs.Tables.{value};
+    ghost use Rattle.multilinear_util.specs.Storage.{scalars, view_scalars, IsScalar};
+
+    /// The polynomial, borrowed.
+    pub fn as_view(&self) -> PolyMaybePackedView<'_, F, EF>
+        ensures { view_scalars EF.ExtensionPacking.ext_lanes result ≡ scalars EF.ExtensionPacking.ext_lanes self.now }
+    {
+        match self {
+            PolyMaybePacked::Scalar(poly) => PolyMaybePackedView::Scalar(poly.as_view()),
+            PolyMaybePacked::Packed(poly) => PolyMaybePackedView::Packed(poly.as_view()),
+        }
+    }
+
+    /// The scalar table. A packed one gives its lanes, joined in order.
+    ///
+    /// # Errors
+    /// Where the memory for the lanes is refused, or their number does not fit a word; the
+    /// polynomial comes back.
+    pub fn unpack(self, alloc: Global) -> Result<Poly<EF>, (Self, AllocError)>
+        ensures value { MatchResult result (λ poly. poly ≡ scalars EF.ExtensionPacking.ext_lanes self) (λ refused. refused.0 ≡ self) }
+        ensures scalar { IsScalar self → IsOk result }
+    {
+        match self {
+            PolyMaybePacked::Scalar(poly) => Ok(poly),
+            PolyMaybePacked::Packed(poly) => match poly.unpack::<F, EF>(alloc) {
+                Ok(evals) => Ok(evals),
+                Err(error) => Err((PolyMaybePacked::Packed(poly), error)),
+            },
+        }
+    }
+
+    /// A copy, in one growth of its size.
+    ///
+    /// # Errors
+    /// Where the growth is refused.
+    pub fn try_clone(&self, alloc: Global) -> Result<Self, AllocError>
+        ensures { IfOk result (λ copy. copy ≡ self.now) }
+    {
+        match self {
+            PolyMaybePacked::Scalar(poly) => Ok(PolyMaybePacked::Scalar(poly.try_clone(alloc)?)),
+            PolyMaybePacked::Packed(poly) => Ok(PolyMaybePacked::Packed(poly.try_clone(alloc)?)),
+        }
+    }
+}
+
+impl<F: Field, EF: ExtensionField<F>> PolyMaybePackedView<'_, F, EF> {
+    ghost use Rattle.std.specs.Prelude.{◌≡◌, ◌^◌, ◌<◌, length, IfOk};
+    ghost use Rattle.mlu_ring.specs.Tables.{value};
+    ghost use Rattle.multilinear_util.specs.Storage.{view_scalars};
+
+    /// Writes the scalars. Asks for exact room.
+    pub fn unpack_into(&self, out: &mut [EF])
+        requires { length out.old ≡ length (view_scalars EF.ExtensionPacking.ext_lanes self.now) }
+        ensures { out.new ≡ view_scalars EF.ExtensionPacking.ext_lanes self.now }
+    {
+        match self {
+            PolyMaybePackedView::Scalar(poly) => out.copy_from_slice(poly.as_slice()),
+            PolyMaybePackedView::Packed(poly) => crate::packing::unpack_into::<F, EF>(
+                poly.as_slice(),
+                out,
+            ),
+        }
+    }
+
+    /// The value at a point. Asks for a point with as many coordinates as there are variables.
+    ///
+    /// # Errors
+    /// Where memory is refused.
+    pub fn eval(&self, alloc: Global, point: &Point<EF>) -> Result<EF, AllocError>
+        requires { length (view_scalars EF.ExtensionPacking.ext_lanes self.now) ≡ 2 ^ length point.now }
+        ensures { IfOk result (λ x. x ≡ value EF.ring (view_scalars EF.ExtensionPacking.ext_lanes self.now) point.now) }
+    {
+        match self {
+            PolyMaybePackedView::Scalar(poly) => poly.eval_ext::<F>(alloc, point),
+            PolyMaybePackedView::Packed(poly) => poly.eval_packed::<F, EF>(alloc, point),
+        }
+    }
+}

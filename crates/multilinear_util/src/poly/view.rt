@@ -1,0 +1,100 @@
+ghost use Rattle.std.specs.Prelude.{◌≡◌, ◌<◌, ◌^◌, ◌∷◌, [], length, IsTrue, MatchOption};
+ghost use Rattle.std.specs.Int.{is_power_of_two};
+
+use std::alloc::AllocError;
+use std::slice;
+
+/// A multilinear polynomial that borrows its values.
+#[derive(Debug, PartialEq, Eq)]
+pub struct PolyView<'a, F> {
+    evals: &'a [F],
+    ghost power: { IsTrue (is_power_of_two (length evals.now)) },
+}
+
+impl<F> Clone for PolyView<'_, F> {
+    ghost is_clone = { λ a b. a ≡ b };
+
+    fn clone(&self) -> Result<Self, AllocError> {
+        Ok(*self)
+    }
+}
+
+impl<F> Copy for PolyView<'_, F> {}
+
+impl<'a, F: Copy> PolyView<'a, F> {
+    ghost use Rattle.std.specs.Slice.Iter.{iter_rest, iter_steps};
+    ghost use Rattle.std.specs.Iterator.Runs.{EveryRun, ItemsMapTo};
+    ghost use Rattle.multilinear_util.specs.Views.{entries};
+
+    /// The polynomial with these values. Asks that their number is a power of two.
+    #[inline]
+    pub fn new(evals: &'a [F]) -> Self
+        requires { IsTrue (is_power_of_two (length evals.now)) }
+        ensures { entries result ≡ evals.now }
+    {
+        PolyView { evals }
+    }
+
+    /// The number of values, a power of two.
+    #[inline]
+    pub fn num_evals(&self) -> usize
+        ensures value { result ≡ length (entries self.now) }
+        ensures power { IsTrue (is_power_of_two result) }
+    {
+        self.evals.len()
+    }
+
+    /// The number of variables.
+    #[inline]
+    pub fn num_variables(&self) -> usize
+        ensures { length (entries self.now) ≡ 2 ^ result }
+    {
+        self.evals.len().trailing_zeros() as usize
+    }
+
+    /// The view itself.
+    #[inline]
+    pub fn as_view(&self) -> PolyView<'a, F>
+        ensures { result ≡ self.now }
+    {
+        *self
+    }
+
+    /// The values.
+    #[inline]
+    pub fn as_slice(&self) -> &[F]
+        ensures value { result.now ≡ entries self.now }
+        ensures power { IsTrue (is_power_of_two (length result.now)) }
+    {
+        self.evals
+    }
+
+    /// The values, for as long as they are borrowed.
+    #[inline]
+    pub fn into_slice(self) -> &'a [F]
+        ensures value { result.now ≡ entries self.entry }
+        ensures power { IsTrue (is_power_of_two (length result.now)) }
+    {
+        self.evals
+    }
+
+    /// An iterator over the values.
+    #[inline]
+    pub fn iter(&self) -> slice::Iter<'_, F>
+        ensures rest { iter_rest result ≡ entries self.now }
+        ensures runs { EveryRun (iter_steps {A = F}) (λ p. ItemsMapTo p (λ y. y.now) (iter_rest p.from)) }
+    {
+        self.evals.iter()
+    }
+
+    /// The value of a polynomial without variables, and `None` for others.
+    #[inline]
+    pub fn as_constant(&self) -> Option<F>
+        ensures { MatchOption result (1 < length (entries self.now)) (λ x. entries self.now ≡ x ∷ []) }
+    {
+        match self.evals {
+            [constant] => Some(*constant),
+            _ => None,
+        }
+    }
+}
