@@ -1,0 +1,4 @@
+pub mod Decimals
+pub mod Outcomes
+pub mod Powers
+pub mod Texts

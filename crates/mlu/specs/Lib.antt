@@ -1,0 +1,4 @@
+pub mod Commands
+pub mod Elements
+pub mod Faults
+pub mod Words
