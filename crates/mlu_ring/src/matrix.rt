@@ -55,7 +55,7 @@ impl<F: Copy> RowMajorMatrix<F> {
     pub fn width(&self) -> usize
         ensures { result ≡ self.now.width }
     {
-        self.width
+        self.as_view().width()
     }
 
     /// The number of rows, which is 0 at width 0.
