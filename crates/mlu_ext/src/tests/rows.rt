@@ -1,19 +1,7 @@
-use crate::{ProductAlgebra, QuarticExtension};
-use mlu_lanes::{BabyBear, Lanes};
+use super::{Bear, Quartic, quartic};
+use crate::ProductAlgebra;
+use mlu_lanes::Lanes;
 use mlu_ring::{Additive, Algebra, ExtensionField, PackedFieldExtension};
-
-type Bear = BabyBear<4>;
-
-type Quartic = QuarticExtension<Bear>;
-
-fn quartic(c0: u32, c1: u32, c2: u32, c3: u32) -> Quartic {
-    QuarticExtension::new(
-        Bear::from_u32(c0),
-        Bear::from_u32(c1),
-        Bear::from_u32(c2),
-        Bear::from_u32(c3),
-    )
-}
 
 #[test]
 fn reduces_by_eleven(rt: HostRuntime) {
