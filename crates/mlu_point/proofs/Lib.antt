@@ -1,4 +1,5 @@
 pub mod Tables
+pub mod Sizes
 pub mod Suffixes
 pub mod Equality
 pub mod Selection

@@ -88,7 +88,7 @@ impl<F: Copy> Point<F> {
         ensures rest { iter_rest result ≡ self.now }
         ensures runs { EveryRun (iter_steps {A = F}) (λ p. ItemsMapTo p (λ y. y.now) (iter_rest p.from)) }
     {
-        self.coords.iter()
+        self.as_slice().iter()
     }
 
     /// Appends the coordinates of `other`.

@@ -60,7 +60,7 @@ impl<'a, F: Copy> PointView<'a, F> {
     pub fn as_slice(&self) -> &[F]
         ensures { result.now ≡ coordinates self.now }
     {
-        self.coords
+        self.into_slice()
     }
 
     /// The coordinates, for as long as what they were borrowed from lives.
@@ -76,7 +76,7 @@ impl<'a, F: Copy> PointView<'a, F> {
     pub fn as_view(&self) -> PointView<'_, F>
         ensures { coordinates result ≡ coordinates self.now }
     {
-        *self
+        PointView::new(self.coords)
     }
 
     /// An iterator over the coordinates.
@@ -85,7 +85,7 @@ impl<'a, F: Copy> PointView<'a, F> {
         ensures rest { iter_rest result ≡ coordinates self.now }
         ensures runs { EveryRun (iter_steps {A = F}) (λ p. ItemsMapTo p (λ y. y.now) (iter_rest p.from)) }
     {
-        self.coords.iter()
+        self.as_slice().iter()
     }
 
     /// The point of the coordinates in a range. Asks that the range is one of the coordinates.

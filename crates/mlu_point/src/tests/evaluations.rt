@@ -1,84 +1,83 @@
-use super::{numbers, residues};
+ghost use Rattle.std.specs.Prelude.{◌<◌};
+
+use super::{are, element, elements, plain_weight};
 use crate::point::Point;
-use mlu_lanes::{BabyBear, WrappingU64};
-use mlu_ring::Additive;
+use mlu_ring::{ExtensionField, Field, Sample};
 use rand_core::SeedableRng;
 use rand_pcg::Pcg32;
+use std::alloc::Global;
+use std::process::Abort;
 use std::test::Fail;
 
-#[test]
-fn points_of_a_number(rt: HostRuntime) -> Result<(), Fail> {
-    let vertex: Point<BabyBear<4>> = Point::hypercube(rt.alloc(), 5, 3)?;
-    assert_eq!(rt;
-        numbers(rt.alloc(), vertex.as_slice())?.as_slice(),
-        &[1, 0, 1][..]
-    );
-    let long: Point<BabyBear<4>> = Point::hypercube(rt.alloc(), usize::MAX, 66)?;
-    assert_eq!(rt; long.equality_at_vertex(usize::MAX), Some(BabyBear::ONE));
-    let powers = Point::expand_from_univariate(rt.alloc(), BabyBear::<4>::from_u32(3), 3)?;
-    assert_eq!(rt;
-        numbers(rt.alloc(), powers.as_slice())?.as_slice(),
-        &[81, 9, 3][..]
-    );
-    let none = Point::expand_from_univariate(rt.alloc(), BabyBear::<4>::from_u32(3), 0)?;
-    assert_eq!(rt; none.num_variables(), 0);
+pub fn points<F: Field + Drop>(rt: &impl Abort, alloc: Global) -> Result<(), Fail> {
+    let vertex: Point<F> = Point::hypercube(alloc, 5, 3)?;
+    assert!(rt; are(vertex.as_slice(), &[1, 0, 1]));
+    let long: Point<F> = Point::hypercube(alloc, usize::MAX, 66)?;
+    assert!(rt; long.equality_at_vertex(usize::MAX) == Some(F::ONE));
+    let powers: Point<F> = Point::expand_from_univariate(alloc, element(3), 3)?;
+    assert!(rt; are(powers.as_slice(), &[81, 9, 3]));
+    let none: Point<F> = Point::expand_from_univariate(alloc, element(3), 0)?;
+    assert!(rt; none == Point::empty(alloc));
     Ok(())
 }
 
-#[test]
-fn values_without_a_table(rt: HostRuntime) {
-    let two = BabyBear::<4>::from_u32(2);
-    let three = BabyBear::<4>::from_u32(3);
-    let five = BabyBear::<4>::from_u32(5);
-    let seven = BabyBear::<4>::from_u32(7);
-    assert_eq!(rt; Point::eval_eq(&[two], &[three]), BabyBear::from_u32(8));
-    assert_eq!(rt;
-        Point::eval_select(three, &[five, seven]),
-        BabyBear::from_u32(615)
-    );
-    let none: [BabyBear<4>; 0] = [];
-    assert_eq!(rt; Point::eval_eq(&none, &none), BabyBear::ONE);
-    assert_eq!(rt; Point::eval_select(three, &none), BabyBear::ONE);
-    let wrapping = WrappingU64::<4>::new(1 << 63);
-    assert_eq!(rt; Point::eval_eq(&[wrapping], &[wrapping]), WrappingU64::ONE);
+pub fn side_by_side<F: Field + Drop>(rt: &impl Abort, alloc: Global) -> Result<(), Fail> {
+    let points: [Point<F>; 2] = [
+        Point::new(elements(alloc, &[1, 2])?),
+        Point::new(elements(alloc, &[3, 4])?),
+    ];
+    let rows = Point::transpose(alloc, points.as_slice(), false)?;
+    assert!(rt; are(rows.values.as_slice(), &[1, 3, 2, 4]));
+    assert!(rt; rows.width() == 2);
+    let reversed = Point::transpose(alloc, points.as_slice(), true)?;
+    assert!(rt; are(reversed.values.as_slice(), &[2, 4, 1, 3]));
+    Ok(())
 }
 
-#[test]
-fn drawn_values_are_plain_sums(rt: HostRuntime) -> Result<(), Fail> {
+pub fn rows<F: Field + Drop, EF: ExtensionField<F> + Drop>(
+    rt: &impl Abort,
+    alloc: Global,
+) -> Result<(), Fail> {
+    let base: Vec<F> = elements(alloc, &[2])?;
+    let three: Vec<EF> = elements(alloc, &[3])?;
+    assert!(rt; Point::eval_eq::<EF>(base.as_slice(), three.as_slice()) == element(8));
+    let point: Vec<EF> = elements(alloc, &[5, 7])?;
+    assert!(rt; Point::eval_select::<EF>(element::<F>(3), point.as_slice()) == element(615));
+    Ok(())
+}
+
+pub fn draws<F: Field + Sample + Drop, EF: ExtensionField<F> + Sample + Drop>(
+    rt: &impl Abort,
+    alloc: Global,
+) -> Result<(), Fail> {
     let mut rng = Pcg32::seed_from_u64(11);
-    let p: Point<BabyBear<4>> = Point::rand(rt.alloc(), &mut rng, 5)?;
-    let q: Point<BabyBear<4>> = Point::rand(rt.alloc(), &mut rng, 5)?;
-    let at_p = p.equality_weights_msb(rt.alloc())?;
-    let at_q = q.equality_weights_msb(rt.alloc())?;
-    let var = BabyBear::from_u32(10);
-    let mut power = BabyBear::ONE;
-    let mut selected = BabyBear::ZERO;
-    let mut sum = BabyBear::ZERO;
-    for (v, w) in at_p.iter().zip(at_q.iter()) {
-        sum = sum + *v * *w;
-        selected = selected + power * *w;
+    for n in 0..6 {
+        drawn_values::<F, EF>(rt, alloc, &mut rng, n)?;
+    }
+    Ok(())
+}
+
+fn drawn_values<F: Field + Sample + Drop, EF: ExtensionField<F> + Sample + Drop>(
+    rt: &impl Abort,
+    alloc: Global,
+    rng: &mut Pcg32,
+    n: usize,
+) -> Result<(), Fail>
+    requires { n < 6 }
+{
+    let p: Point<F> = Point::rand(alloc, rng, n)?;
+    let q: Point<EF> = Point::rand(alloc, rng, n)?;
+    let var = F::sample(rng);
+    let mut power = F::ONE;
+    let mut equal = EF::ZERO;
+    let mut selected = EF::ZERO;
+    for x in 0..1 << n {
+        let weight = plain_weight(q.as_slice(), 1, 0, x);
+        equal = equal + weight.scale(plain_weight(p.as_slice(), 1, 0, x));
+        selected = selected + weight.scale(power);
         power = power * var;
     }
-    assert_eq!(rt; Point::eval_eq(p.as_slice(), q.as_slice()), sum);
-    assert_eq!(rt; Point::eval_select(var, q.as_slice()), selected);
-    Ok(())
-}
-
-#[test]
-fn coordinates_side_by_side(rt: HostRuntime) -> Result<(), Fail> {
-    let first = Point::new(residues(rt.alloc(), &[1, 2])?);
-    let second = Point::new(residues(rt.alloc(), &[3, 4])?);
-    let points = [first, second];
-    let rows = Point::transpose(rt.alloc(), points.as_slice(), false)?;
-    assert_eq!(rt; rows.width(), 2);
-    assert_eq!(rt;
-        numbers(rt.alloc(), rows.values.as_slice())?.as_slice(),
-        &[1, 3, 2, 4][..]
-    );
-    let reversed = Point::transpose(rt.alloc(), points.as_slice(), true)?;
-    assert_eq!(rt;
-        numbers(rt.alloc(), reversed.values.as_slice())?.as_slice(),
-        &[2, 4, 1, 3][..]
-    );
+    assert!(rt; Point::eval_eq(p.as_slice(), q.as_slice()) == equal);
+    assert!(rt; Point::eval_select(var, q.as_slice()) == selected);
     Ok(())
 }

@@ -1,116 +1,74 @@
-use super::{numbers, residues};
+ghost use Rattle.std.specs.Prelude.{◌<◌};
+
+use super::{are, element, elements, plain_weight};
 use crate::point::{Point, PointView};
-use mlu_lanes::{BabyBear, WrappingU64};
-use mlu_ring::Additive;
+use mlu_lanes::BabyBear;
+use mlu_ring::{Field, Sample};
 use rand_core::SeedableRng;
 use rand_pcg::Pcg32;
+use std::alloc::Global;
+use std::process::Abort;
 use std::test::Fail;
 
-#[test]
-fn two_coordinates(rt: HostRuntime) -> Result<(), Fail> {
-    let point = Point::new(residues(rt.alloc(), &[2, 3])?);
-    let msb = point.equality_weights_msb(rt.alloc())?;
-    let lsb = point.equality_weights_lsb(rt.alloc())?;
-    assert_eq!(rt;
-        numbers(rt.alloc(), msb.as_slice())?.as_slice(),
-        &[2, 2013265918, 2013265917, 6][..]
-    );
-    assert_eq!(rt;
-        numbers(rt.alloc(), lsb.as_slice())?.as_slice(),
-        &[2, 2013265917, 2013265918, 6][..]
-    );
-    let wrapping = [WrappingU64::<4>::new(2), WrappingU64::new(3)];
-    let view = PointView::new(&wrapping);
-    let msb = view.equality_weights_msb(rt.alloc())?;
-    let expected = [
-        WrappingU64::new(2),
-        WrappingU64::new(u64::MAX - 2),
-        WrappingU64::new(u64::MAX - 3),
-        WrappingU64::new(6),
-    ];
-    assert_eq!(rt; msb.as_slice(), expected.as_slice());
-    let lsb = view.equality_weights_lsb(rt.alloc())?;
-    assert_eq!(rt; lsb.len(), 4);
+pub fn rows<F: Field + Drop>(rt: &impl Abort, alloc: Global) -> Result<(), Fail> {
+    let none: Point<F> = Point::empty(alloc);
+    assert!(rt; are(&none.equality_weights_msb(alloc)?, &[1]));
+    assert!(rt; are(&none.equality_weights_lsb(alloc)?, &[1]));
+    assert!(rt; none.equality_at_vertex(0) == Some(F::ONE));
+    assert!(rt; none.equality_at_vertex(1) == None);
+    let coordinates: Vec<F> = elements(alloc, &[2, 3])?;
+    let two = PointView::new(coordinates.as_slice());
+    assert!(rt; are(&two.equality_weights_msb(alloc)?, &[2, -3, -4, 6]));
+    assert!(rt; are(&two.equality_weights_lsb(alloc)?, &[2, -4, -3, 6]));
+    assert!(rt; two.equality_at_vertex(3) == Some(element(6)));
+    assert!(rt; two.equality_at_vertex(4) == None);
+    Ok(())
+}
+
+pub fn three_coordinates<F: Field + Drop>(rt: &impl Abort, alloc: Global) -> Result<(), Fail> {
+    let point: Point<F> = Point::new(elements(alloc, &[2, 3, 5])?);
+    let msb = point.equality_weights_msb(alloc)?;
+    assert!(rt; are(msb.as_slice(), &[-8, 10, 12, -15, 16, -20, -24, 30]));
+    let lsb = point.equality_weights_lsb(alloc)?;
+    assert!(rt; are(lsb.as_slice(), &[-8, 16, 12, -24, 10, -20, -15, 30]));
     Ok(())
 }
 
 #[test]
-fn three_coordinates(rt: HostRuntime) -> Result<(), Fail> {
-    let point = Point::new(residues(rt.alloc(), &[2, 3, 5])?);
-    let msb = point.equality_weights_msb(rt.alloc())?;
-    let lsb = point.equality_weights_lsb(rt.alloc())?;
-    assert_eq!(rt;
-        numbers(rt.alloc(), msb.as_slice())?.as_slice(),
-        &[
-            2013265913, 10, 12, 2013265906, 16, 2013265901, 2013265897, 30
-        ][..]
-    );
-    assert_eq!(rt;
-        numbers(rt.alloc(), lsb.as_slice())?.as_slice(),
-        &[
-            2013265913, 16, 12, 2013265897, 10, 2013265901, 2013265906, 30
-        ][..]
-    );
-    Ok(())
-}
-
-#[test]
-fn no_coordinate(rt: HostRuntime) -> Result<(), Fail> {
-    let none: PointView<'_, BabyBear<4>> = PointView::new(&[]);
-    let msb = none.equality_weights_msb(rt.alloc())?;
-    let lsb = none.equality_weights_lsb(rt.alloc())?;
-    assert_eq!(rt; msb.as_slice(), &[BabyBear::ONE][..]);
-    assert_eq!(rt; lsb.as_slice(), &[BabyBear::ONE][..]);
-    assert_eq!(rt; none.equality_at_vertex(0), Some(BabyBear::ONE));
-    assert_eq!(rt; none.equality_at_vertex(1), None);
-    Ok(())
-}
-
-#[test]
-fn one_vertex(rt: HostRuntime) -> Result<(), Fail> {
-    let point = Point::new(residues(rt.alloc(), &[2, 3])?);
-    assert_eq!(rt; point.equality_at_vertex(3), Some(BabyBear::from_u32(6)));
-    assert_eq!(rt; point.equality_at_vertex(4), None);
+fn more_coordinates_than_bits(rt: HostRuntime) {
     let many = [BabyBear::<4>::from_u32(2); 67];
     assert_eq!(rt;
         PointView::new(&many).equality_at_vertex(usize::MAX),
         Some(BabyBear::from_u32(841097758))
     );
+}
+
+pub fn draws<F: Field + Sample + Drop>(rt: &impl Abort, alloc: Global) -> Result<(), Fail> {
+    let mut rng = Pcg32::seed_from_u64(7);
+    for n in 0..8 {
+        drawn_table::<F>(rt, alloc, &mut rng, n)?;
+    }
     Ok(())
 }
 
-/// The product of the shares of the coordinates, the last of which reads the lowest bit.
-fn plain_weight(coords: &[BabyBear<4>], vertex: usize) -> BabyBear<4> {
-    let mut bits = vertex;
-    let mut weight = BabyBear::ONE;
-    for coordinate in coords.iter().rev() {
-        let share = if bits % 2 == 1 {
-            *coordinate
-        } else {
-            BabyBear::ONE - *coordinate
-        };
-        weight = weight * share;
-        bits /= 2;
+fn drawn_table<F: Field + Sample + Drop>(
+    rt: &impl Abort,
+    alloc: Global,
+    rng: &mut Pcg32,
+    n: usize,
+) -> Result<(), Fail>
+    requires { n < 8 }
+{
+    let point: Point<F> = Point::rand(alloc, rng, n)?;
+    let reversed = point.reversed(alloc)?;
+    assert!(rt; reversed.num_variables() == n);
+    let msb = point.equality_weights_msb(alloc)?;
+    let lsb = reversed.equality_weights_lsb(alloc)?;
+    assert!(rt; msb.len() == 1 << n);
+    assert!(rt; msb == lsb);
+    for (x, weight) in msb.iter().enumerate() {
+        assert!(rt; *weight == plain_weight(point.as_slice(), 1, 0, x));
+        assert!(rt; point.equality_at_vertex(x) == Some(*weight));
     }
-    weight
-}
-
-#[test]
-fn drawn_tables_are_plain_products(rt: HostRuntime) -> Result<(), Fail> {
-    let mut rng = Pcg32::seed_from_u64(7);
-    let point: Point<BabyBear<4>> = Point::rand(rt.alloc(), &mut rng, 6)?;
-    let reversed = point.reversed(rt.alloc())?;
-    for (x, weight) in point.equality_weights_msb(rt.alloc())?.iter().enumerate() {
-        assert_eq!(rt; *weight, plain_weight(point.as_slice(), x));
-        assert_eq!(rt; point.equality_at_vertex(x), Some(*weight));
-    }
-    let mut sum = BabyBear::ZERO;
-    let lsb = reversed.equality_weights_lsb(rt.alloc())?;
-    for (x, weight) in lsb.iter().enumerate() {
-        assert_eq!(rt; *weight, plain_weight(point.as_slice(), x));
-        sum = sum + *weight;
-    }
-    assert_eq!(rt; sum, BabyBear::ONE);
-    assert_eq!(rt; lsb.len(), 64);
     Ok(())
 }
