@@ -69,9 +69,9 @@ fn packed_dot<F: Field, EF: ExtensionField<F>>(
     sum
 }
 
-/// The sum of the lanes.
+/// The sum of the lanes of a packed value.
 #[inline]
-fn lane_total<F: Field, EF: ExtensionField<F>>(packed: EF::ExtensionPacking) -> EF
+pub fn lane_total<F: Field, EF: ExtensionField<F>>(packed: EF::ExtensionPacking) -> EF
     ensures { result ≡ sum_of EF.ring (EF.ExtensionPacking.ext_lanes packed) }
 {
     let mut sum = EF::ZERO;

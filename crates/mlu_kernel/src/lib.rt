@@ -14,8 +14,10 @@
 mod dot;
 mod prefix;
 
-pub use dot::{compress_hi_dot_packed, compress_hi_dot_packed_eager};
-pub use prefix::{compress_prefix_to_packed_packed, compress_prefix_to_packed_packed_kernel_eager};
+pub use dot::{compress_hi_dot_packed, compress_hi_dot_packed_eager, lane_total};
+pub use prefix::{
+    add_row, compress_prefix_to_packed_packed, compress_prefix_to_packed_packed_kernel_eager,
+};
 
 #[cfg(test)]
 mod tests;

@@ -69,9 +69,13 @@ fn add_rows<F: Field, EF: ExtensionField<F>>(
     }
 }
 
-/// Adds one row times its weight.
+/// Adds a row, times its weight, to a packed output. Asks for as many entries as `out` has lanes.
 #[inline]
-fn add_row<F: Field, EF: ExtensionField<F>>(out: &mut [EF::ExtensionPacking], weight: EF, row: &[F])
+pub fn add_row<F: Field, EF: ExtensionField<F>>(
+    out: &mut [EF::ExtensionPacking],
+    weight: EF,
+    row: &[F],
+)
     requires { length row.now ≡ length out.old * F.Packing.WIDTH }
     ensures { logical EF.ExtensionPacking.ext_lanes out.new
         ≡ plus_rows EF.ring (logical EF.ExtensionPacking.ext_lanes out.old)
