@@ -1,3 +1,9 @@
+pub mod Accumulations
+pub mod Compressions
+pub mod Contents
 pub mod Evaluations
 pub mod Folds
 pub mod Groups
+pub mod Lengths
+pub mod Products
+pub mod Zipped

@@ -1,1 +1,3 @@
 pub mod Combine
+pub mod Split
+pub mod Weights

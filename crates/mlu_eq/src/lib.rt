@@ -5,10 +5,13 @@
 //! of the first variable, so it joins the two halves; a suffix fold puts it in place of the last
 //! one, so it joins entries side by side.
 //!
-//! Each call is stated by the definitions of `mlu_ring` alone: the value, `front` and `back`.
-//! Nothing takes memory but the calls that are handed an allocator.
+//! [`EqMaybePacked`] has the weights of the second half of a split table, as scalars or packed, and
+//! the kernels over the whole table: dots, accumulations, and the compressions of a table by it.
 //!
-//! Stands on `mlu_ring`; the polynomials stand on this crate.
+//! The calls over slices are stated by the definitions of `mlu_ring` alone: the value, `front` and
+//! `back`. Nothing takes memory but the calls that are handed an allocator.
+//!
+//! Stands on `mlu_ring` and `mlu_kernel`; the polynomials stand on this crate.
 #![tactic(auto)]
 
 mod evaluation;
@@ -18,6 +21,7 @@ mod prefix;
 mod suffix;
 #[cfg(test)]
 mod tests;
+mod weights;
 
 pub use evaluation::{eval_base, eval_ext};
 pub use prefix::{
@@ -25,3 +29,4 @@ pub use prefix::{
     fold_prefix_to_packed, sum_halves_in_place,
 };
 pub use suffix::{fold_suffix, fold_suffix_by_base, fold_suffix_in_place};
+pub use weights::{EqMaybePacked, images};

@@ -10,6 +10,9 @@ use mlu_lanes::{BabyBear, Lanes, WrappingU64};
 use mlu_ring::{Additive, ExtensionField, PackedFieldExtension, PackedValue};
 use std::test::Fail;
 
+mod halves;
+mod sums;
+
 type Bear = BabyBear<4>;
 
 type Word = WrappingU64<4>;

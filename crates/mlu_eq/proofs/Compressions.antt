@@ -1,0 +1,78 @@
+-- Tables compressed by a split table: rows added up by groups, and rows paired one by one.
+use Rattle.std.proofs.Common.{◌≡◌, ℕ, zero, suc, ◌+◌, ◌*◌, ◌/◌, ◌<◌, List, [], ◌∷◌, map, length, take, drop, set, get_or, replicate, refl, sym, ap, ◌∙◌, arith}
+use Rattle.std.proofs.Math.Nat.{mul_assoc, mul-div_cancel, mul-div_cancel_left, zero-div}
+use Rattle.std.proofs.lemmas.List.{ext_get_or, get_or-drop, length-map, length-replicate, length-take-le}
+use Rattle.mlu_ring.specs.Ring.{Ring, RingLaws}
+use Rattle.mlu_ring.specs.Tables.{pair, front, back}
+use Rattle.mlu_ring.proofs.Folds.{length-back}
+use Rattle.mlu_ring.proofs.Joined.{back-entry}
+use Rattle.mlu_ring.proofs.SumsBelow.{sum_below-same}
+use Rattle.mlu_ring.proofs.Totals.{pair-take}
+use Rattle.mlu_ring.proofs.Univariate.{length-front}
+use Rattle.mlu_kernel.specs.Kernels.{plus_rows}
+use Rattle.mlu_kernel.proofs.PlusRows.{plus_rows-append, plus_rows-front}
+use Rattle.mlu_eq.specs.Split.{contents}
+use Rattle.mlu_eq.proofs.Contents.{length-contents, contents-take_more}
+use Rattle.mlu_eq.proofs.Zipped.{zip_zeros}
+
+-- one more place is written
+pub written_more : {A : Type 0} (f : ℕ → A) (ys : List A) (y : ℕ) (x : A) → y < length ys → x ≡ f y → ((k : ℕ) (d : A) → k < y → get_or ys k d ≡ f k) → (k : ℕ) (d : A) → k < y + 1 → get_or (set ys y x) k d ≡ f k
+written_more f [] y x room is before k d h = absurd (omega arith)
+written_more f (z ∷ ys) zero x room is before zero d h = is
+written_more f (z ∷ ys) zero x room is before (suc k) d h = absurd (omega arith)
+written_more f (z ∷ ys) (suc y) x room is before zero d h = before 0 d (omega arith)
+written_more f (z ∷ ys) (suc y) x room is before (suc k) d h = written_more (λ j. f (suc j)) ys y x (omega arith) is (λ j e q. before (suc j) e (omega arith)) k d (omega arith)
+
+module _ {R : Type 0} (ring : Ring R) (laws : RingLaws ring) where
+  infixl 60 ◌⊗◌
+  open ring use {product as ◌⊗◌, zero as 𝟘}
+
+  -- one more entry of the first half, with a row for each weight
+  pub plus_rows-contents_more : (old w eq0 e between : List R) (j r : ℕ) (x : R) → j < length eq0 → r ≡ length w * length old → x ≡ get_or eq0 j x
+      → between ≡ plus_rows ring old (contents ring (take j eq0) w) e
+      → plus_rows ring between (map (ring.product x) w) (take r (drop (j * r) e)) ≡ plus_rows ring old (contents ring (take (j + 1) eq0) w) e
+  plus_rows-contents_more old w eq0 e between j r x h size at_x so_far =
+      let s = length old in
+      let v = contents ring (take j eq0) w in
+      let u = map (ring.product x) w in
+      let many : r ≡ length (map (ring.product x) w) * length old = size ∙ ap (λ k. k * length old) (sym (length-map w (ring.product x))) in
+      let first : length (contents ring (take j eq0) w) ≡ j * length w = length-contents ring (take j eq0) w ∙ ap (λ k. k * length w) (length-take-le j eq0 (omega arith)) in
+      let start : j * r ≡ length (contents ring (take j eq0) w) * length old =
+      ap (λ k. j * k) size ∙ sym (mul_assoc j (length w) (length old)) ∙ ap (λ k. k * length old) (sym first) in
+      ap (λ l. plus_rows ring l u (take r (drop (j * r) e))) so_far
+      ∙ ap (λ k. plus_rows ring (plus_rows ring old v e) u (take k (drop (j * r) e))) many
+      ∙ ap (λ k. plus_rows ring (plus_rows ring old v e) u (take (length u * s) (drop k e))) start
+      ∙ plus_rows-append ring laws old v u e s refl
+      ∙ ap (λ t. plus_rows ring old t e) (sym (contents-take_more ring eq0 w j x h at_x))
+
+  -- over zeros the rows leave the compression
+  pub plus_rows-zeros : (n : ℕ) (w e : List R) → 0 < length w → length e ≡ length w * n → plus_rows ring (replicate n 𝟘) w e ≡ front ring w e
+  plus_rows-zeros n w e some h =
+      plus_rows-front ring laws (replicate n 𝟘) w e some (h ∙ ap (λ k. length w * k) (sym (length-replicate n 𝟘)))
+      ∙ zip_zeros ring laws n (front ring w e) (length-front ring w e n (ap (λ k. k / length w) h ∙ mul-div_cancel_left n some))
+
+  -- what is added to zeros is written
+  pub front-written : (n : ℕ) (w e old out : List R) → old ≡ replicate n 𝟘 → 0 < length w → length e ≡ length w * n → out ≡ plus_rows ring old w e → out ≡ front ring w e
+  front-written n w e old out is some h made = made ∙ ap (λ o. plus_rows ring o w e) is ∙ plus_rows-zeros n w e some h
+
+  -- without rows there is nothing to write
+  pub back_of_nothing : (w e ys : List R) → length ys ≡ 0 → length e ≡ 0 → ys ≡ back ring w e
+  back_of_nothing w e ys none empty =
+      let rows : length (back ring w e) ≡ 0 = length-back ring w e ∙ ap (λ k. k / length w) empty ∙ zero-div (length w) in
+      ext_get_or 𝟘 ys (back ring w e) (none ∙ sym rows) (λ k h. absurd (omega arith))
+
+  -- an output that was filled with the dots of the rows
+  pub back_of_dots : (w e ys : List R) (m : ℕ) → 0 < length w → length e ≡ m * length w → length ys ≡ m
+      → ((k : ℕ) (d : R) → k < m → get_or ys k d ≡ pair ring w (take (length w) (drop (k * length w) e)))
+      → ys ≡ back ring w e
+  unfolding pair
+  back_of_dots w e ys m some size long at =
+      let n = length w in
+      let rows : length e / length w ≡ m = ap (λ k. k / length w) size ∙ mul-div_cancel m some in
+      ext_get_or 𝟘 ys (back ring w e) (long ∙ sym (length-back ring w e ∙ rows))
+      (λ k h.
+      at k 𝟘 (omega arith)
+      ∙ pair-take ring laws w (drop (k * n) e)
+      ∙ sum_below-same ring n (λ z. get_or w z 𝟘 ⊗ get_or (drop (k * n) e) z 𝟘) (λ z. get_or w z 𝟘 ⊗ get_or e (k * n + z) 𝟘)
+      (λ z q. ap (λ t. get_or w z 𝟘 ⊗ t) (get_or-drop (k * n) e z 𝟘))
+      ∙ sym (back-entry ring laws w e k m rows (omega arith)))

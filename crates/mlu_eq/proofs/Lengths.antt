@@ -1,0 +1,36 @@
+-- The number of weights of a half table, each lane counted.
+use Rattle.std.proofs.Common.{◌≡◌, ℕ, ◌+◌, ◌*◌, ◌/◌, ◌^◌, ◌<◌, ◌≤◌, ap, sym, ◌∙◌, subst, pow-add, arith}
+use Rattle.std.specs.Prelude.{IsTrue}
+use Rattle.std.specs.Int.{is_power_of_two}
+use Rattle.std.specs.Int.Count.{count_trailing_zeros}
+use Rattle.std.proofs.Math.Nat.{mul_assoc, mul-div_cancel, mul-le-mul_right}
+use Rattle.std.proofs.lemmas.Nat.{pow_pos}
+use Rattle.mlu_ring.proofs.PowersOfTwo.{is_power_of_two-power, power_of_test}
+
+-- 2 ^ k elements of 2 ^ l lanes each
+pub lanes_of_powers : (n w k l m : ℕ) → n ≡ 2 ^ k → w ≡ 2 ^ l → m ≡ n * w → m ≡ 2 ^ (k + l)
+lanes_of_powers n w k l m count width is = is ∙ ap (λ x. x * w) count ∙ ap (λ x. 2 ^ k * x) width ∙ sym (pow-add 2 k l)
+
+pub power_of_lanes : (n w l m : ℕ) → n < 2 ^ 64 → IsTrue (is_power_of_two n) → w ≡ 2 ^ l → m ≡ n * w → IsTrue (is_power_of_two m)
+power_of_lanes n w l m fits test width is =
+    is_power_of_two-power m (count_trailing_zeros 64 n + l) (lanes_of_powers n w (count_trailing_zeros 64 n) l m (power_of_test n fits test) width is)
+
+-- a power of two is positive
+pub positive_of_test : (n : ℕ) → n < 2 ^ 64 → IsTrue (is_power_of_two n) → 0 < n
+positive_of_test n fits test = subst (λ m. 0 < m) (sym (power_of_test n fits test)) (pow_pos (count_trailing_zeros 64 n))
+
+pub positive_product : (m n : ℕ) → 0 < m → 0 < n → 0 < m * n
+positive_product m n h k =
+    let le : 1 ≤ m = omega arith in
+    let rows : 1 * n ≤ m * n = mul-le-mul_right n le in
+    omega arith
+
+pub positive_of_lanes : (n w l : ℕ) → n < 2 ^ 64 → IsTrue (is_power_of_two n) → w ≡ 2 ^ l → 0 < n * w
+positive_of_lanes n w l fits test width =
+    positive_product n w (positive_of_test n fits test) (subst (λ m. 0 < m) (sym width) (pow_pos l))
+
+-- rows of whole packed values, counted without their lanes
+pub cancel_width : (a b c w l : ℕ) → w ≡ 2 ^ l → a * w ≡ b * (c * w) → a ≡ b * c
+cancel_width a b c w l width is =
+    let positive : 0 < w = subst (λ x. 0 < x) (sym width) (pow_pos l) in
+    sym (mul-div_cancel a positive) ∙ ap (λ x. x / w) (is ∙ sym (mul_assoc b c w)) ∙ mul-div_cancel (b * c) positive

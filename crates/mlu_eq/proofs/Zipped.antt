@@ -1,0 +1,64 @@
+-- What a loop leaves that writes a function of two lists over the first, block by block.
+use Rattle.std.proofs.Common.{◌≡◌, ℕ, zero, suc, ◌+◌, ◌-◌, ◌*◌, ◌<◌, ◌≤◌, List, [], ◌∷◌, ◌++◌, length, take, drop, replicate, ap, ◌∙◌, arith, zero-add, suc-add, refl}
+use Rattle.std.specs.Simd.Lanes.{zip2}
+use Rattle.std.proofs.lemmas.List.{drop-drop}
+use Rattle.mlu_ring.specs.Ring.{Ring, RingLaws}
+use Rattle.mlu_eq.proofs.Products.{row_end}
+
+module _ {V W : Type 0} (f : V → W → V) where
+  -- n more places of two lists, zipped over the first
+  pub zip_block : (xs : List V) (ys : List W) (out : List V) (m n : ℕ) → m + n ≤ length xs → length xs ≡ length ys → out ≡ zip2 f (take m xs) (take m ys) ++ drop m xs
+      → take m out ++ (zip2 f (take n (drop m out)) (take n (drop m ys)) ++ drop (m + n) out) ≡ zip2 f (take (m + n) xs) (take (m + n) ys) ++ drop (m + n) xs
+  zip_block xs ys out m n h e is =
+      ap (λ vs. take m vs ++ (zip2 f (take n (drop m vs)) (take n (drop m ys)) ++ drop (m + n) vs)) is ∙ blocks xs ys m n h e
+    where
+      blocks : (xs : List V) (ys : List W) (m n : ℕ) → m + n ≤ length xs → length xs ≡ length ys
+          → take m (zip2 f (take m xs) (take m ys) ++ drop m xs) ++ (zip2 f (take n (drop m (zip2 f (take m xs) (take m ys) ++ drop m xs))) (take n (drop m ys)) ++ drop (m + n) (zip2 f (take m xs) (take m ys) ++ drop m xs))
+          ≡ zip2 f (take (m + n) xs) (take (m + n) ys) ++ drop (m + n) xs
+      blocks xs ys zero n h e = rw zero-add refl
+      blocks [] ys (suc m) n h e = absurd (omega arith)
+      blocks (x ∷ xs) [] (suc m) n h e = absurd (omega arith)
+      blocks (x ∷ xs) (y ∷ ys) (suc m) n h e = rw suc-add (ap (λ vs. f x y ∷ vs) (blocks xs ys m n (omega arith) (omega arith)))
+
+  -- block i of n places, written over what a loop left: the loop counts its places as v
+  pub zip_block_step : (xs : List V) (ys : List W) (out written : List V) (i m v n : ℕ) → i < m → length xs ≡ m * n → length xs ≡ length ys → v ≡ n
+      → out ≡ zip2 f (take (i * n) xs) (take (i * n) ys) ++ drop (i * n) xs
+      → written ≡ zip2 f (take n (drop (i * n) out)) (take n (drop (i * n) ys))
+      → take (i * v) out ++ (written ++ drop (i * v + v - i * v) (drop (i * v) out)) ≡ zip2 f (take ((i + 1) * n) xs) (take ((i + 1) * n) ys) ++ drop ((i + 1) * n) xs
+  zip_block_step xs ys out written i m v n h size e same is at =
+      let many : i * v + v - i * v ≡ v = omega arith in
+      let next : i * n + n ≡ (i + 1) * n = omega arith in
+      let room = row_end i m n (length xs) h size in
+      ap (λ k. take (i * v) out ++ (written ++ drop k (drop (i * v) out))) many
+      ∙ ap (λ k. take (i * k) out ++ (written ++ drop k (drop (i * k) out))) same
+      ∙ ap (λ vs. take (i * n) out ++ (vs ++ drop n (drop (i * n) out))) at
+      ∙ ap (λ vs. take (i * n) out ++ (zip2 f (take n (drop (i * n) out)) (take n (drop (i * n) ys)) ++ vs)) (drop-drop n (i * n) out)
+      ∙ zip_block xs ys out (i * n) n room e is
+      ∙ ap (λ k. zip2 f (take k xs) (take k ys) ++ drop k xs) next
+
+  -- two lists in two parts
+  pub zip2-append : (us vs : List V) (xs ys : List W) → length us ≡ length xs → zip2 f (us ++ vs) (xs ++ ys) ≡ zip2 f us xs ++ zip2 f vs ys
+  zip2-append [] vs [] ys h = refl
+  zip2-append [] vs (x ∷ xs) ys h = absurd (omega arith)
+  zip2-append (u ∷ us) vs [] ys h = absurd (omega arith)
+  zip2-append (u ∷ us) vs (x ∷ xs) ys h = ap (λ zs. f u x ∷ zs) (zip2-append us vs xs ys (omega arith))
+
+  zip_nil : (ys : List W) → [] ≡ zip2 f [] ys
+  zip_nil [] = refl
+  zip_nil (y ∷ ys) = refl
+
+  -- an output without places
+  pub zip_nothing : (xs : List V) (ys : List W) → length xs ≡ 0 → xs ≡ zip2 f xs ys
+  zip_nothing [] ys h = zip_nil ys
+  zip_nothing (x ∷ xs) ys h = absurd (omega arith)
+
+module _ {R : Type 0} (ring : Ring R) (laws : RingLaws ring) where
+  -- nothing was there before
+  pub zip_zeros : (n : ℕ) (xs : List R) → length xs ≡ n → zip2 ring.sum (replicate n ring.zero) xs ≡ xs
+  zip_zeros zero [] h = refl
+  zip_zeros (suc n) [] h = absurd (omega arith)
+  zip_zeros zero (x ∷ xs) h = absurd (omega arith)
+  zip_zeros (suc n) (x ∷ xs) h =
+      let first = laws.zero_sum x in
+      let rest = zip_zeros n xs (omega arith) in
+      cc (first, rest)
