@@ -1,19 +1,18 @@
 -- Lengths of tables that are made of others: halves, groups of lanes, lanes.
-use Rattle.std.proofs.Common.{◌≡◌, ℕ, zero, suc, ◌+◌, ◌-◌, ◌*◌, ◌/◌, ◌%◌, ◌^◌, ◌<◌, ◌≤◌, arith, ap, ◌∙◌, sym, subst, pow-add, refl}
+use Rattle.std.proofs.Common.{◌≡◌, ℕ, zero, suc, ◌+◌, ◌-◌, ◌*◌, ◌/◌, ◌%◌, ◌^◌, ◌<◌, ◌≤◌, arith, ap, ◌∙◌, sym, subst, pow-add}
 use Rattle.std.specs.Prelude.{IsTrue}
 use Rattle.std.specs.Int.{is_power_of_two}
 use Rattle.std.specs.Int.Count.{count_trailing_zeros}
 use Rattle.std.proofs.lemmas.Nat.{pow_pos, div-mul-add}
-use Rattle.std.proofs.Math.Nat.{mul-mod_left, mul_comm}
+use Rattle.std.proofs.Math.Nat.{mul-mod_left}
 use Rattle.std.proofs.Math.Pow.{pow-lt}
-use Rattle.std.proofs.Common.{add-zero}
 use Rattle.mlu_ring.proofs.PowersOfTwo.{is_power_of_two-power, power_of_test, half_power}
 
-exponents : (k l : ℕ) → 2 ^ l ≤ 2 ^ k → l ≤ k
+pub exponents : (k l : ℕ) → 2 ^ l ≤ 2 ^ k → l ≤ k
 exponents k l h = grind (arith, pow-lt {i = k} {j = l})
 
 -- 2 ^ k is a whole number of 2 ^ l, where it is no less
-quotient_of_powers : (k l : ℕ) → 2 ^ l ≤ 2 ^ k → 2 ^ k ≡ 2 ^ (k - l) * 2 ^ l
+pub quotient_of_powers : (k l : ℕ) → 2 ^ l ≤ 2 ^ k → 2 ^ k ≡ 2 ^ (k - l) * 2 ^ l
 quotient_of_powers k l h =
     let le : l ≤ k = exponents k l h in
     let e : k ≡ k - l + l = omega (arith, le) in

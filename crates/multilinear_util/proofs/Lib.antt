@@ -1,1 +1,7 @@
 pub mod Lengths
+pub mod EqualityTables
+pub mod Outcomes
+pub mod Packed
+pub mod Rooms
+pub mod Scaled
+pub mod Splits

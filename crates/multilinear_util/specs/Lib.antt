@@ -2,3 +2,4 @@ pub mod Views
 pub mod Lending
 pub mod Thresholds
 pub mod Storage
+pub mod Split

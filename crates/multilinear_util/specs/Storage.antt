@@ -20,3 +20,8 @@ IsScalar (Packed ps) = ⊥
 abbrev pub view_scalars : {F E Q P O : Type 0} → (P → List E) → PolyMaybePackedView F E Q P O → List E
 view_scalars lanes (V.Scalar es) = es.evals.now
 view_scalars lanes (V.Packed ps) = logical lanes ps.evals.now
+
+-- the view holds scalars
+abbrev pub IsScalarView : {F E Q P O : Type 0} → PolyMaybePackedView F E Q P O → Type 0
+IsScalarView (V.Scalar es) = ⊤
+IsScalarView (V.Packed ps) = ⊥

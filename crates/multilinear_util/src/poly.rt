@@ -8,11 +8,14 @@ ghost use Rattle.std.specs.Slice.Iter.{iter_rest, iter_steps};
 ghost use Rattle.std.specs.Vec.Iter.{into_iter_items, into_iter_steps};
 ghost use Rattle.std.specs.declared.alloc.Global.{Global};
 ghost use Rattle.multilinear_util.specs.Lending.{lends_entries};
+ghost use Rattle.multilinear_util.specs.Views.{entries};
 
+mod compressions;
 mod evaluation;
 mod folds;
 mod maybe_packed;
 mod packed;
+mod tables;
 mod view;
 
 pub use maybe_packed::{PolyMaybePacked, PolyMaybePackedView};
@@ -60,10 +63,11 @@ impl<F: Copy> Poly<F> {
         self.evals.len()
     }
 
-    /// The number of variables.
+    /// The number of variables, below the number of bits of a word.
     #[inline]
     pub fn num_variables(&self) -> usize
-        ensures { length self.now ≡ 2 ^ result }
+        ensures value { length self.now ≡ 2 ^ result }
+        ensures small { result < 64 }
     {
         self.as_view().num_variables()
     }
@@ -71,7 +75,7 @@ impl<F: Copy> Poly<F> {
     /// The polynomial, borrowed.
     #[inline]
     pub fn as_view(&self) -> PolyView<'_, F>
-        ensures { result.evals.now ≡ self.now }
+        ensures { entries result ≡ self.now }
     {
         PolyView::new(self.evals.as_slice())
     }
@@ -100,13 +104,14 @@ impl<F: Copy> Poly<F> {
         ensures rest { iter_rest result ≡ self.now }
         ensures runs { EveryRun (iter_steps {A = F}) (λ p. ItemsMapTo p (λ y. y.now) (iter_rest p.from)) }
     {
-        self.evals.as_slice().iter()
+        self.as_slice().iter()
     }
 
     /// The values, in their Vec.
     #[inline]
     pub fn into_evals(self) -> Vec<F>
-        ensures { result.items ≡ self }
+        ensures value { result.items ≡ self }
+        ensures power { IsTrue (is_power_of_two (length result.items)) }
     {
         self.evals
     }
@@ -225,7 +230,7 @@ impl<'a, F> IntoIterator for &'a Poly<F> {
 
 /// The number of values of a polynomial in so many variables.
 #[inline]
-fn table_length(variables: usize) -> usize
+pub(crate) fn table_length(variables: usize) -> usize
     requires { 2 ^ variables < 2 ^ 64 }
     ensures { result ≡ 2 ^ variables }
 {

@@ -7,11 +7,23 @@ ghost use Rattle.multilinear_util.specs.Views.{entries};
 
 use super::Poly;
 use super::view::PolyView;
-use crate::packing;
+use crate::split_eq::SplitEq;
 use mlu_eq::{eval_base, eval_ext};
 use mlu_point::point::Point;
-use mlu_ring::{ExtensionField, Field};
+use mlu_ring::{ExtensionField, Field, PackedValue};
 use std::alloc::{AllocError, Global};
+
+/// The bytes of a base element up to which the split table serves one variable earlier.
+const SMALL_BYTES: usize = 4;
+
+/// The number of variables from which a split table serves better than the recursion, which takes
+/// no memory.
+#[inline]
+fn recursion_threshold(bytes: usize) -> usize
+    ensures { result ≡ threshold bytes }
+{
+    if bytes <= SMALL_BYTES { 9 } else { 10 }
+}
 
 impl<F: Field> PolyView<'_, F> {
     /// The value at a point of the extension `EF`. Asks for a point with as many coordinates as
@@ -22,14 +34,18 @@ impl<F: Field> PolyView<'_, F> {
     /// Where memory is refused.
     pub fn eval_base<EF: ExtensionField<F>>(
         &self,
-        _alloc: Global,
+        alloc: Global,
         point: &Point<EF>,
     ) -> Result<EF, AllocError>
         requires { length (entries self.now) ≡ 2 ^ length point.now }
         ensures value { IfOk result (λ x. x ≡ value EF.ring (map EF.embed (entries self.now)) point.now) }
         ensures small { length point.now < threshold F.bytes_of → IsOk result }
     {
-        Ok(eval_base(self.as_slice(), point.as_slice()))
+        if point.num_variables() < recursion_threshold(F::bytes()) {
+            return Ok(eval_base(self.as_slice(), point.as_slice()));
+        }
+        let split = SplitEq::<F, EF>::new_packed(alloc, point, EF::ONE)?;
+        Ok(split.eval_base(*self))
     }
 
     /// The value at a point of the table's own field, an extension of `BaseField`. Asks for a point
@@ -40,7 +56,7 @@ impl<F: Field> PolyView<'_, F> {
     /// Where memory is refused.
     pub fn eval_ext<BaseField: Field>(
         &self,
-        _alloc: Global,
+        alloc: Global,
         point: &Point<F>,
     ) -> Result<F, AllocError>
     where
@@ -49,7 +65,11 @@ impl<F: Field> PolyView<'_, F> {
         ensures value { IfOk result (λ x. x ≡ value F.ring (entries self.now) point.now) }
         ensures small { length point.now < threshold BaseField.bytes_of → IsOk result }
     {
-        Ok(eval_ext(self.as_slice(), point.as_slice()))
+        if point.num_variables() < recursion_threshold(BaseField::bytes()) {
+            return Ok(eval_ext(self.as_slice(), point.as_slice()));
+        }
+        let split = SplitEq::<BaseField, F>::new_packed(alloc, point, F::ONE)?;
+        Ok(split.eval_ext(*self))
     }
 }
 
@@ -67,9 +87,23 @@ impl<A: Copy> PolyView<'_, A> {
         requires { length (entries self.now) * F.Packing.WIDTH ≡ 2 ^ length point.now }
         ensures { IfOk result (λ x. x ≡ value EF.ring (logical A.ext_lanes (entries self.now)) point.now) }
     {
-        let evals = packing::unpacked::<F, EF>(alloc, self.as_slice())?;
-        Ok(eval_ext(evals.as_slice(), point.as_slice()))
+        value_of_lanes::<F, EF>(alloc, *self, point)
     }
+}
+
+/// The value of the table of the lanes, joined in order.
+fn value_of_lanes<F: Field, EF: ExtensionField<F>>(
+    alloc: Global,
+    poly: PolyView<'_, EF::ExtensionPacking>,
+    point: &Point<EF>,
+) -> Result<EF, AllocError>
+    requires { length (entries poly) * F.Packing.WIDTH ≡ 2 ^ length point.now }
+    ensures { IfOk result (λ x. x ≡ value EF.ring (logical EF.ExtensionPacking.ext_lanes (entries poly.entry)) point.now) }
+{
+    // Elements and lanes are each counted by a word, so the weights of each half are too.
+    prove!(F::Packing::WIDTH.is_power_of_two());
+    let split = SplitEq::<F, EF>::new_packed(alloc, point, EF::ONE)?;
+    split.eval_packed(alloc, poly)
 }
 
 impl<F: Field> Poly<F> {

@@ -1,8 +1,11 @@
 //! A polynomial over an extension, with scalar or packed storage.
+//!
+//! A packed table keeps the last variables in the lanes, so it stores fewer elements than it has
+//! values. The calls here count and give the values, whatever the storage.
 use super::Poly;
 use super::view::PolyView;
 use mlu_point::point::Point;
-use mlu_ring::{ExtensionField, Field, Lanewise, PackedValue};
+use mlu_ring::{ExtensionField, Field, Lanewise, PackedValue, log2_strict_usize};
 use std::alloc::{AllocError, Global};
 
 /// A polynomial that owns its values, as scalars or in packed form.
@@ -43,13 +46,30 @@ impl<F: Field, EF: ExtensionField<F>> From<Poly<EF>> for PolyMaybePacked<F, EF> 
 }
 
 impl<F: Field, EF: ExtensionField<F>> PolyMaybePacked<F, EF> {
-    ghost use Rattle.std.specs.Prelude.{◌≡◌, ◌^◌, ◌<◌, length, IfOk, IsOk, MatchResult};
+    ghost use Rattle.std.specs.Prelude.{◌≡◌, ◌↔◌, ◌^◌, ◌<◌, length, IfOk, IsOk, MatchResult};
     ghost use Rattle.mlu_ring.specs.Tables.{value};
-    ghost use Rattle.multilinear_util.specs.Storage.{scalars, view_scalars, IsScalar};
+    ghost use Rattle.multilinear_util.specs.Storage.{scalars, view_scalars, IsScalar, IsScalarView};
+    ghost use Rattle.multilinear_util.specs.Thresholds.{threshold};
+
+    /// The number of variables, those of the lanes among them.
+    pub fn num_variables(&self) -> usize
+        ensures { length (scalars EF.ExtensionPacking.ext_lanes self.now) ≡ 2 ^ result }
+    {
+        self.as_view().num_variables()
+    }
+
+    /// The number of values. Asks that it fits a word.
+    pub fn num_scalar_evals(&self) -> usize
+        requires { length (scalars EF.ExtensionPacking.ext_lanes self.now) < 2 ^ 64 }
+        ensures { result ≡ length (scalars EF.ExtensionPacking.ext_lanes self.now) }
+    {
+        self.as_view().num_scalar_evals()
+    }
 
     /// The polynomial, borrowed.
     pub fn as_view(&self) -> PolyMaybePackedView<'_, F, EF>
-        ensures { view_scalars EF.ExtensionPacking.ext_lanes result ≡ scalars EF.ExtensionPacking.ext_lanes self.now }
+        ensures value { view_scalars EF.ExtensionPacking.ext_lanes result ≡ scalars EF.ExtensionPacking.ext_lanes self.now }
+        ensures scalar { IsScalar self.now ↔ IsScalarView result }
     {
         match self {
             PolyMaybePacked::Scalar(poly) => PolyMaybePackedView::Scalar(poly.as_view()),
@@ -75,6 +95,26 @@ impl<F: Field, EF: ExtensionField<F>> PolyMaybePacked<F, EF> {
         }
     }
 
+    /// Writes the values. Asks for exact room.
+    pub fn unpack_into(&self, out: &mut [EF])
+        requires { length out.old ≡ length (scalars EF.ExtensionPacking.ext_lanes self.now) }
+        ensures { out.new ≡ scalars EF.ExtensionPacking.ext_lanes self.now }
+    {
+        self.as_view().unpack_into(out);
+    }
+
+    /// The value at a point. Asks for a point with as many coordinates as there are variables.
+    ///
+    /// # Errors
+    /// Where memory is refused.
+    pub fn eval(&self, alloc: Global, point: &Point<EF>) -> Result<EF, AllocError>
+        requires { length (scalars EF.ExtensionPacking.ext_lanes self.now) ≡ 2 ^ length point.now }
+        ensures value { IfOk result (λ x. x ≡ value EF.ring (scalars EF.ExtensionPacking.ext_lanes self.now) point.now) }
+        ensures small { IsScalar self.now → length point.now < threshold F.bytes_of → IsOk result }
+    {
+        self.as_view().eval(alloc, point)
+    }
+
     /// A copy, in one growth of its size.
     ///
     /// # Errors
@@ -89,12 +129,45 @@ impl<F: Field, EF: ExtensionField<F>> PolyMaybePacked<F, EF> {
     }
 }
 
-impl<F: Field, EF: ExtensionField<F>> PolyMaybePackedView<'_, F, EF> {
-    ghost use Rattle.std.specs.Prelude.{◌≡◌, ◌^◌, ◌<◌, length, IfOk};
+impl<'a, F: Field, EF: ExtensionField<F>> PolyMaybePackedView<'a, F, EF> {
+    ghost use Rattle.std.specs.Prelude.{◌≡◌, ◌^◌, ◌<◌, length, IfOk, IsOk};
     ghost use Rattle.mlu_ring.specs.Tables.{value};
-    ghost use Rattle.multilinear_util.specs.Storage.{view_scalars};
+    ghost use Rattle.multilinear_util.specs.Storage.{view_scalars, IsScalarView};
+    ghost use Rattle.multilinear_util.specs.Thresholds.{threshold};
 
-    /// Writes the scalars. Asks for exact room.
+    /// The number of variables, those of the lanes among them.
+    pub fn num_variables(&self) -> usize
+        ensures { length (view_scalars EF.ExtensionPacking.ext_lanes self.now) ≡ 2 ^ result }
+    {
+        match self {
+            PolyMaybePackedView::Scalar(poly) => poly.num_variables(),
+            PolyMaybePackedView::Packed(poly) => {
+                poly.num_variables() + log2_strict_usize(<F::Packing as PackedValue>::WIDTH)
+            }
+        }
+    }
+
+    /// The number of values. Asks that it fits a word.
+    pub fn num_scalar_evals(&self) -> usize
+        requires { length (view_scalars EF.ExtensionPacking.ext_lanes self.now) < 2 ^ 64 }
+        ensures { result ≡ length (view_scalars EF.ExtensionPacking.ext_lanes self.now) }
+    {
+        match self {
+            PolyMaybePackedView::Scalar(poly) => poly.num_evals(),
+            PolyMaybePackedView::Packed(poly) => {
+                poly.num_evals() * <F::Packing as PackedValue>::WIDTH
+            }
+        }
+    }
+
+    /// The view itself.
+    pub fn as_view(&self) -> PolyMaybePackedView<'a, F, EF>
+        ensures { result ≡ self.now }
+    {
+        *self
+    }
+
+    /// Writes the values. Asks for exact room.
     pub fn unpack_into(&self, out: &mut [EF])
         requires { length out.old ≡ length (view_scalars EF.ExtensionPacking.ext_lanes self.now) }
         ensures { out.new ≡ view_scalars EF.ExtensionPacking.ext_lanes self.now }
@@ -114,7 +187,8 @@ impl<F: Field, EF: ExtensionField<F>> PolyMaybePackedView<'_, F, EF> {
     /// Where memory is refused.
     pub fn eval(&self, alloc: Global, point: &Point<EF>) -> Result<EF, AllocError>
         requires { length (view_scalars EF.ExtensionPacking.ext_lanes self.now) ≡ 2 ^ length point.now }
-        ensures { IfOk result (λ x. x ≡ value EF.ring (view_scalars EF.ExtensionPacking.ext_lanes self.now) point.now) }
+        ensures value { IfOk result (λ x. x ≡ value EF.ring (view_scalars EF.ExtensionPacking.ext_lanes self.now) point.now) }
+        ensures small { IsScalarView self.now → length point.now < threshold F.bytes_of → IsOk result }
     {
         match self {
             PolyMaybePackedView::Scalar(poly) => poly.eval_ext::<F>(alloc, point),

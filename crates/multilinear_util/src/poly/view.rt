@@ -44,10 +44,11 @@ impl<'a, F: Copy> PolyView<'a, F> {
         self.evals.len()
     }
 
-    /// The number of variables.
+    /// The number of variables, below the number of bits of a word.
     #[inline]
     pub fn num_variables(&self) -> usize
-        ensures { length (entries self.now) ≡ 2 ^ result }
+        ensures value { length (entries self.now) ≡ 2 ^ result }
+        ensures small { result < 64 }
     {
         self.evals.len().trailing_zeros() as usize
     }

@@ -1,4 +1,4 @@
-use Rattle.std.proofs.Common.{◌≡◌, ◌^◌, length, rules, arith}
+use Rattle.std.proofs.Common.{arith}
 use Rattle.mlu_ring.proofs.PowersOfTwo.{is_power_of_two-power}
 use Rattle.multilinear_util.proofs.poly.Poly.rand.Goals as goal
 

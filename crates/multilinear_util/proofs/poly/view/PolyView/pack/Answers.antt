@@ -1,4 +1,4 @@
-use Rattle.std.proofs.Common.{◌≡◌, ◌≤◌, ◌∙◌, ap, sym, subst, length}
+use Rattle.std.proofs.Common.{◌≤◌, ◌∙◌, ap, sym, subst, length}
 use Rattle.mlu_ring.proofs.Logical.{length-logical}
 use Rattle.multilinear_util.proofs.Lengths.{power-mod-width, power_of_groups}
 use Rattle.multilinear_util.proofs.poly.view.PolyView.pack.Goals as goal

@@ -1,0 +1,18 @@
+use Rattle.std.proofs.Common.{◌∙◌, map, length, ap, rules}
+use Rattle.mlu_ring.specs.Tables.{front, weights}
+use Rattle.multilinear_util.specs.Views.{entries}
+use Rattle.multilinear_util.proofs.Scaled.{front-scaled}
+use Rattle.multilinear_util.proofs.Splits.{lanes_half_fits}
+use Rattle.multilinear_util.proofs.poly.view.PolyView.compress_prefix_to_packed.Goals as goal
+
+pub new_packed-requires : goal.new_packed-requires
+new_packed-requires g c =
+    lanes_half_fits (length c.args.point.now) g.F.Packing.PackedValue.WIDTH g.F.Packing.PackedValue.LOG_WIDTH (length (entries c.args.self.now)) g.met.F.Packing.PackedValue.width_is c.requires (search rules)
+
+pub returns : goal.returns
+returns g c =
+    let ring = g.EF.Additive.ring in
+    let values = map g.EF.Algebra.embed (entries c.args.self.now) in
+    c.in_ok-folded.ensures
+    ∙ ap (λ w. front ring w values) c.in_ok-split.ensures.value
+    ∙ front-scaled ring g.met.EF.Additive.laws c.args.scale (weights ring c.args.point.now) values

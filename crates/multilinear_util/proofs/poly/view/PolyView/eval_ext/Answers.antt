@@ -1,0 +1,16 @@
+use Rattle.std.proofs.Common.{◌^◌, ◌≤◌, ◌∙◌, length, arith, rules}
+use Rattle.multilinear_util.specs.Split.{split_entries}
+use Rattle.multilinear_util.specs.Views.{entries}
+use Rattle.multilinear_util.proofs.Splits.{half_fits, pair-unit}
+use Rattle.multilinear_util.proofs.poly.view.PolyView.eval_ext.Goals as goal
+
+pub new_packed-requires : goal.new_packed-requires
+new_packed-requires g c =
+    let whole : 2 ^ length c.args.point.now ≤ length (entries c.args.self.now) = omega (arith, c.requires) in
+    half_fits (length c.args.point.now) (length (entries c.args.self.now)) whole (search rules)
+
+pub returns-clause-value : goal.returns-clause-value
+returns-clause-value g c =
+    c.eval_ext-2.ensures
+    ∙ pair-unit g.F.Additive.ring g.met.F.Additive.laws c.ONE.result c.args.point.now (split_entries g.F.Additive.ring g.F.ExtensionPacking.PackedFieldExtension.ext_lanes c.in_ok-split.split) (entries c.args.self.now)
+    (c.ONE.ensures ∙ g.met.F.Additive.one_is) c.in_ok-split.ensures.value

@@ -1,0 +1,81 @@
+//! Equality tables as polynomials.
+ghost use Rattle.std.specs.Prelude.{◌≡◌, ◌^◌, ◌<◌, ◌≤◌, length, map, IfOk};
+ghost use Rattle.mlu_ring.specs.Lanes.{logical};
+ghost use Rattle.mlu_ring.specs.Tables.{weights};
+
+use super::{Poly, table_length};
+use mlu_point::point::{BitOrder, fill_equality_table};
+use mlu_ring::{
+    Algebra, ExtensionField, Field, Lanewise, PackedFieldExtension, PackedValue,
+    PrimeCharacteristicRing,
+};
+use std::alloc::{AllocError, Global};
+
+impl<F: PrimeCharacteristicRing> Poly<F> {
+    /// `scale` times the weight of each vertex at the point. Asks that `2^n` fits a word, where
+    /// the point has `n` coordinates.
+    ///
+    /// # Errors
+    /// Where the memory for the table is refused.
+    pub fn new_from_point(alloc: Global, point: &[F], scale: F) -> Result<Self, AllocError>
+        requires { 2 ^ length point.now < 2 ^ 64 }
+        ensures { IfOk result (λ poly. poly ≡ map (F.ring.product scale) (weights F.ring point.now)) }
+    {
+        let mut evals = F::zero_vec(alloc, table_length(point.len()))?;
+        fill_equality_table(evals.as_mut_slice(), point, BitOrder::Msb, scale);
+        Ok(Poly::new(evals))
+    }
+}
+
+impl<A: Copy> Poly<A> {
+    /// [`Poly::new_from_point`] in packed form: the lanes, joined in order, are `scale` times the
+    /// weight of each vertex.
+    ///
+    /// Asks for at least as many coordinates as a packing has variables, and that `2^n` fits a
+    /// word.
+    ///
+    /// # Errors
+    /// Where memory is refused.
+    pub fn new_packed_from_point<F: Field, EF: ExtensionField<F, ExtensionPacking = A>>(
+        alloc: Global,
+        point: &[EF],
+        scale: EF,
+    ) -> Result<Self, AllocError>
+        requires lanes { F.Packing.LOG_WIDTH ≤ length point.now }
+        requires fits { 2 ^ length point.now < 2 ^ 64 }
+        ensures { IfOk result (λ poly. logical A.ext_lanes poly ≡ map (EF.ring.product scale) (weights EF.ring point.now)) }
+    {
+        packed_table::<F, EF>(alloc, point, scale)
+    }
+}
+
+/// The packed table: the last coordinates make one packed seed, and the others double it.
+fn packed_table<F: Field, EF: ExtensionField<F>>(
+    alloc: Global,
+    point: &[EF],
+    scale: EF,
+) -> Result<Poly<EF::ExtensionPacking>, AllocError>
+    requires lanes { F.Packing.LOG_WIDTH ≤ length point.now }
+    requires fits { 2 ^ length point.now < 2 ^ 64 }
+    ensures { IfOk result (λ poly. logical EF.ExtensionPacking.ext_lanes poly ≡ map (EF.ring.product scale) (weights EF.ring point.now)) }
+{
+    let (rest, last) = point.split_at(point.len() - <F::Packing as PackedValue>::LOG_WIDTH);
+    let lanes = Poly::new_from_point(alloc, last, scale)?;
+    let seed = EF::ExtensionPacking::from_ext_slice(lanes.as_slice());
+    let coordinates = splats::<F, EF>(alloc, rest)?;
+    Poly::new_from_point(alloc, coordinates.as_slice(), seed)
+}
+
+/// Each element in every lane of a packed one.
+fn splats<F: Field, EF: ExtensionField<F>>(
+    alloc: Global,
+    elements: &[EF],
+) -> Result<Vec<EF::ExtensionPacking>, AllocError>
+    ensures { IfOk result (λ packed. packed.items ≡ map ⟦<EF::ExtensionPacking as Algebra<EF>>⟧.embed elements.now) }
+{
+    let mut packed = EF::ExtensionPacking::zero_vec(alloc, elements.len())?;
+    for i in 0..elements.len() {
+        packed[i] = <EF::ExtensionPacking as Algebra<EF>>::from_base(elements[i]);
+    }
+    Ok(packed)
+}

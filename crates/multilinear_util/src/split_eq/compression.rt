@@ -1,0 +1,87 @@
+//! Compressions of a polynomial by a split table, whose variables are the first or the last ones.
+ghost use Rattle.std.specs.Prelude.{◌≡◌, ◌*◌, ◌≤◌, length, map, IfOk};
+ghost use Rattle.mlu_ring.specs.Lanes.{logical};
+ghost use Rattle.mlu_ring.specs.Tables.{front, back};
+ghost use Rattle.multilinear_util.specs.Views.{entries};
+
+use super::SplitEq;
+use crate::poly::{Poly, PolyView};
+use mlu_ring::{ExtensionField, Field, PackedValue};
+use std::alloc::{AllocError, Global};
+
+impl<F: Field, EF: ExtensionField<F>> SplitEq<F, EF> {
+    ghost use Rattle.multilinear_util.specs.Split.{split_entries};
+
+    /// The polynomial compressed at its first variables: value `z` is the sum over `y` of entry `y`
+    /// times `e[y * s + z]`, where `s` is the number of values that are left. Asks for at least as
+    /// many variables as the table has.
+    ///
+    /// # Errors
+    /// Where the memory for the values that are left is refused.
+    pub fn compress_prefix(
+        &self,
+        alloc: Global,
+        poly: PolyView<'_, F>,
+    ) -> Result<Poly<EF>, AllocError>
+        requires { length (split_entries EF.ring EF.ExtensionPacking.ext_lanes self.now) ≤ length (entries poly) }
+        ensures { IfOk result (λ folded. folded ≡ front EF.ring (split_entries EF.ring EF.ExtensionPacking.ext_lanes self.now) (map EF.embed (entries poly.entry))) }
+    {
+        let mut out = Poly::zero(alloc, poly.num_variables() - self.num_variables())?;
+        self.eq1
+            .compress_prefix_into(self.eq0.as_slice(), out.as_mut_slice(), poly.as_slice());
+        Ok(out)
+    }
+
+    /// [`SplitEq::compress_prefix`] in packed form. Asks for as many variables more as a packing
+    /// has.
+    ///
+    /// # Errors
+    /// Where the memory for the values that are left is refused.
+    pub fn compress_prefix_to_packed(
+        &self,
+        alloc: Global,
+        poly: PolyView<'_, F>,
+    ) -> Result<Poly<EF::ExtensionPacking>, AllocError>
+        requires { length (split_entries EF.ring EF.ExtensionPacking.ext_lanes self.now) * F.Packing.WIDTH ≤ length (entries poly) }
+        ensures { IfOk result (λ folded. logical EF.ExtensionPacking.ext_lanes folded ≡ front EF.ring (split_entries EF.ring EF.ExtensionPacking.ext_lanes self.now) (map EF.embed (entries poly.entry))) }
+    {
+        let left = poly.num_variables() - self.num_variables();
+        let mut out = Poly::zero(alloc, left - <F::Packing as PackedValue>::LOG_WIDTH)?;
+        self.eq1
+            .compress_prefix_to_packed_into(
+                self.eq0.as_slice(),
+                out.as_mut_slice(),
+                poly.as_slice(),
+            );
+        Ok(out)
+    }
+
+    /// The polynomial compressed at its last variables: value `y` is the sum over `z` of entry `z`
+    /// times `e[y * t + z]`, where the table has `t` entries. Asks for at least as many variables
+    /// as the table has.
+    ///
+    /// # Errors
+    /// Where the memory for the values that are left is refused.
+    pub fn compress_suffix(
+        &self,
+        alloc: Global,
+        poly: PolyView<'_, F>,
+    ) -> Result<Poly<EF>, AllocError>
+        requires { length (split_entries EF.ring EF.ExtensionPacking.ext_lanes self.now) ≤ length (entries poly) }
+        ensures { IfOk result (λ folded. folded ≡ back EF.ring (split_entries EF.ring EF.ExtensionPacking.ext_lanes self.now) (map EF.embed (entries poly.entry))) }
+    {
+        let mut out = Poly::zero(alloc, poly.num_variables() - self.num_variables())?;
+        self.compress_suffix_into(out.as_mut_slice(), poly);
+        Ok(out)
+    }
+
+    /// [`SplitEq::compress_suffix`] over an output, whose old values do not count. Asks for exact
+    /// room.
+    pub fn compress_suffix_into(&self, out: &mut [EF], poly: PolyView<'_, F>)
+        requires { length (entries poly) ≡ length out.old * length (split_entries EF.ring EF.ExtensionPacking.ext_lanes self.now) }
+        ensures { out.new ≡ back EF.ring (split_entries EF.ring EF.ExtensionPacking.ext_lanes self.now) (map EF.embed (entries poly.entry)) }
+    {
+        self.eq1
+            .compress_suffix_into(self.eq0.as_slice(), out, poly.as_slice());
+    }
+}

@@ -1,0 +1,3 @@
+//! The second half of a split table.
+
+pub use mlu_eq::EqMaybePacked;
