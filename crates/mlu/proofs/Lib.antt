@@ -1,4 +1,3 @@
+pub mod Counts
 pub mod Decimals
-pub mod Outcomes
-pub mod Powers
 pub mod Texts

@@ -1,51 +1,48 @@
 -- The commands, and what the program answers to them.
-use Rattle.std.specs.Prelude.{◌≡◌, ◌≢◌, ℕ, ◌^◌, ◌⊎◌, List, [], ◌∷◌, length, codes, Vec, Result, Ok, Err}
-use Rattle.std.specs.Int.{IsPowerOfTwo}
+use Rattle.std.specs.Prelude.{◌≡◌, ◌≢◌, ℕ, ◌⊎◌, List, [], ◌∷◌, codes, replicate, Vec, Result, Err}
 use Rattle.std.specs.declared.alloc.Global.{Global}
 use Rattle.mlu.specs.declared.fault.Fault.{Fault}
-use Rattle.mlu.specs.declared.fault.Fault.TheVariants.{Usage, Number, Length, Arity, Memory}
+use Rattle.mlu.specs.declared.fault.Fault.TheVariants.{Usage}
 use Rattle.mlu.specs.Elements.{Element, elements}
-use Rattle.mlu.specs.Words.{text, line_of}
-use Rattle.mlu_ring.specs.Tables.{value}
-
--- What an operation comes to that reads operands of type X from words: the first of its faults, or
--- what it gives. `Reads x` says that the words stand for x, `IsSized` that its sizes are right, and
--- `Fits` that they fit one another; want of memory comes where there is no other fault.
-abbrev pub IsOutcome : {X Y : Type 0} → (X → Type 0) → (X → Type 0) → (X → Type 0) → (X → Y → Type 0) → Result Y Fault → Type 0
-IsOutcome {X} Reads IsSized Fits Gives (Ok y) = (x : X) × Reads x × IsSized x × Fits x × Gives x y
-IsOutcome {X} Reads IsSized Fits Gives (Err Usage) = ⊥
-IsOutcome {X} Reads IsSized Fits Gives (Err Number) = (x : X) → Reads x → ⊥
-IsOutcome {X} Reads IsSized Fits Gives (Err Length) = (x : X) × Reads x × (IsSized x → ⊥)
-IsOutcome {X} Reads IsSized Fits Gives (Err Arity) = (x : X) × Reads x × IsSized x × (Fits x → ⊥)
-IsOutcome {X} Reads IsSized Fits Gives (Err Memory) = (x : X) × Reads x × IsSized x × Fits x
-
--- a table and a point
-abbrev pub TableAndPoint : Type 0
-TableAndPoint = List Element × List Element
-
--- the words are the texts of the table and of the point
-abbrev pub AreTexts : List ℕ → List ℕ → TableAndPoint → Type 0
-AreTexts table point x = (text x.0 ≡ table) × (text x.1 ≡ point)
-
--- the table has a power of two of entries
-abbrev pub IsTable : TableAndPoint → Type 0
-IsTable x = IsPowerOfTwo (length x.0)
-
--- the point has as many coordinates as the table has variables
-abbrev pub IsPointOf : TableAndPoint → Type 0
-IsPointOf x = length x.0 ≡ 2 ^ length x.1
+use Rattle.mlu.specs.Operands.{IsText, AreTexts, AreTextAndDecimal, IsTable, IsPointOf, HasVariable, IsShort, StandsAlone}
+use Rattle.mlu.specs.Outcomes.{IsOutcome}
+use Rattle.mlu.specs.Words.{line_of, lines_of}
+use Rattle.mlu_ring.specs.Tables.{value, weights, lsb, line, front, back}
 
 -- what is asked for, with the words of its operands
 pub data Command : Type 0 where
   Eval : List ℕ → List ℕ → Command
+  Msb : List ℕ → Command
+  Lsb : List ℕ → Command
+  FoldFirst : List ℕ → List ℕ → Command
+  FoldLast : List ℕ → List ℕ → Command
+  Routes : List ℕ → List ℕ → Command
 
 -- the words that ask for it
 abbrev pub words_of : Command → List (List ℕ)
 words_of (Eval table point) = codes "eval" ∷ table ∷ point ∷ []
+words_of (Msb point) = codes "msb" ∷ point ∷ []
+words_of (Lsb point) = codes "lsb" ∷ point ∷ []
+words_of (FoldFirst table number) = codes "fold-first" ∷ table ∷ number ∷ []
+words_of (FoldLast table number) = codes "fold-last" ∷ table ∷ number ∷ []
+words_of (Routes table point) = codes "routes" ∷ table ∷ point ∷ []
+
+-- the bytes are the line of the list that stands for the operands
+abbrev pub Prints : {X : Type 0} → (X → List Element) → X → Vec ℕ Global → Type 0
+Prints list x bytes = bytes.items ≡ line_of (list x)
+
+-- the bytes are that line for each of the four routes
+abbrev pub PrintsFour : {X : Type 0} → (X → Element) → X → Vec ℕ Global → Type 0
+PrintsFour element x bytes = bytes.items ≡ lines_of (replicate 4 (element x))
 
 -- what the command comes to
 abbrev pub Answers : Command → Result (Vec ℕ Global) Fault → Type 0
-Answers (Eval table point) = IsOutcome (AreTexts table point) IsTable IsPointOf (λ x bytes. bytes.items ≡ line_of (value elements x.0 x.1 ∷ []))
+Answers (Eval table point) = IsOutcome (AreTexts table point) IsTable IsPointOf (Prints (λ x. value elements x.0 x.1 ∷ []))
+Answers (Msb point) = IsOutcome (IsText point) IsShort StandsAlone (Prints (weights elements))
+Answers (Lsb point) = IsOutcome (IsText point) IsShort StandsAlone (Prints (lsb elements))
+Answers (FoldFirst table number) = IsOutcome (AreTextAndDecimal table number) IsTable HasVariable (Prints (λ x. front elements (line elements x.1) x.0))
+Answers (FoldLast table number) = IsOutcome (AreTextAndDecimal table number) IsTable HasVariable (Prints (λ x. back elements (line elements x.1) x.0))
+Answers (Routes table point) = IsOutcome (AreTexts table point) IsTable IsPointOf (PrintsFour (λ x. value elements x.0 x.1))
 
 -- the answer to the words: that of the command that they ask for, or the fault that they ask for none
 abbrev pub AnswersWords : List (List ℕ) → Result (Vec ℕ Global) Fault → Type 0

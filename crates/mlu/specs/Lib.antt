@@ -1,4 +1,6 @@
 pub mod Commands
 pub mod Elements
 pub mod Faults
+pub mod Operands
+pub mod Outcomes
 pub mod Words

@@ -1,18 +1,75 @@
 //! What the program answers to its words.
 ghost use Rattle.std.specs.Prelude.{map, string_bytes};
-ghost use Rattle.mlu.specs.Commands.{Eval, Answers, AnswersWords};
+ghost use Rattle.mlu.specs.Commands.{Eval, Msb, Lsb, FoldFirst, FoldLast, Routes, Answers, AnswersWords};
 
+use crate::element::Element;
 use crate::fault::Fault;
-use crate::words;
+use crate::operands::{short_point, table_and_number, table_and_point};
+use crate::routes::{by_lanes, by_scalars, packed};
+use crate::words::{line, lines};
 use std::alloc::Global;
 
 /// The value of a table at a point.
 fn eval(alloc: Global, table: &str, point: &str) -> Result<Vec<u8>, Fault>
     ensures { Answers (Eval table.now point.now) result }
 {
-    let (table, point) = words::table_and_point(alloc, table, point)?;
-    let line = words::line(alloc, &[table.eval(&point)])?;
+    let (table, point) = table_and_point(alloc, table, point)?;
+    let value = table.eval_base(alloc, &point)?;
+    let line = line(alloc, &[value])?;
     Ok(line)
+}
+
+/// The weights of the vertices, where coordinate 0 reads the highest bit of an index.
+fn msb(alloc: Global, point: &str) -> Result<Vec<u8>, Fault>
+    ensures { Answers (Msb point.now) result }
+{
+    let point = short_point(alloc, point)?;
+    let weights = point.equality_weights_msb(alloc)?;
+    let line = line(alloc, &weights)?;
+    Ok(line)
+}
+
+/// The weights of the vertices, where coordinate 0 reads the lowest bit of an index.
+fn lsb(alloc: Global, point: &str) -> Result<Vec<u8>, Fault>
+    ensures { Answers (Lsb point.now) result }
+{
+    let point = short_point(alloc, point)?;
+    let weights = point.equality_weights_lsb(alloc)?;
+    let line = line(alloc, &weights)?;
+    Ok(line)
+}
+
+/// The table with its first variable at a number.
+fn fold_first(alloc: Global, table: &str, number: &str) -> Result<Vec<u8>, Fault>
+    ensures { Answers (FoldFirst table.now number.now) result }
+{
+    let (table, number) = table_and_number(alloc, table, number)?;
+    let folded = table.fix_prefix_var(alloc, number)?;
+    let line = line(alloc, folded.as_slice())?;
+    Ok(line)
+}
+
+/// The table with its last variable at a number.
+fn fold_last(alloc: Global, table: &str, number: &str) -> Result<Vec<u8>, Fault>
+    ensures { Answers (FoldLast table.now number.now) result }
+{
+    let (table, number) = table_and_number(alloc, table, number)?;
+    let folded = table.fix_suffix_var(alloc, number)?;
+    let line = line(alloc, folded.as_slice())?;
+    Ok(line)
+}
+
+/// The value of a table at a point by four routes, a line each.
+fn routes(alloc: Global, table: &str, point: &str) -> Result<Vec<u8>, Fault>
+    ensures { Answers (Routes table.now point.now) result }
+{
+    let (table, point) = table_and_point(alloc, table, point)?;
+    let direct = table.eval_base(alloc, &point)?;
+    let by_scalars = by_scalars::<Element, Element>(alloc, &table, &point)?;
+    let by_lanes = by_lanes::<Element, Element>(alloc, &table, &point)?;
+    let packed = packed::<Element, Element>(alloc, table, &point)?;
+    let lines = lines(alloc, &[direct, by_scalars, by_lanes, packed])?;
+    Ok(lines)
 }
 
 /// The line that answers the words after the program's name, or the first of their faults.
@@ -23,8 +80,16 @@ pub fn answer(alloc: Global, words: &[String]) -> Result<Vec<u8>, Fault>
     ensures { AnswersWords (map string_bytes words.now) result }
 {
     match words {
-        [name, table, point] => match name.as_str() {
-            "eval" => eval(alloc, table.as_str(), point.as_str()),
+        [name, point] => match name.as_str() {
+            "msb" => msb(alloc, point.as_str()),
+            "lsb" => lsb(alloc, point.as_str()),
+            _ => Err(Fault::Usage),
+        },
+        [name, table, operand] => match name.as_str() {
+            "eval" => eval(alloc, table.as_str(), operand.as_str()),
+            "fold-first" => fold_first(alloc, table.as_str(), operand.as_str()),
+            "fold-last" => fold_last(alloc, table.as_str(), operand.as_str()),
+            "routes" => routes(alloc, table.as_str(), operand.as_str()),
             _ => Err(Fault::Usage),
         },
         _ => Err(Fault::Usage),

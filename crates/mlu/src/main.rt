@@ -5,7 +5,7 @@
 //! its contract says which, in the definitions of mlu_ring. The faults of the words are tested
 //! before any memory is asked for.
 //!
-//! Stands on mlu_lanes for the elements, and on mlu_eq for the evaluation.
+//! Stands on mlu_lanes for the elements, and on multilinear_util for points and polynomials.
 #![tactic(auto)]
 
 ghost use Rattle.std.specs.Prelude.{OnOk};
@@ -14,8 +14,8 @@ ghost use Rattle.std.specs.Io.KnownBytes.{Appends};
 mod command;
 mod element;
 mod fault;
-mod point;
-mod poly;
+mod operands;
+mod routes;
 mod words;
 
 use crate::fault::Fault;

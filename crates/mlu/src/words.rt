@@ -1,13 +1,8 @@
 //! Lists of elements as words: read from them, and written as a line.
-ghost use Rattle.std.specs.Prelude.{◌≡◌, ◌≢◌, List, length, MatchOption, IfOk, IsTrue, ◌↔◌};
-ghost use Rattle.mlu.specs.Elements.{Element};
-ghost use Rattle.mlu.specs.Words.{text, line_of, decimal_of, IsNoList, HasPlainStart};
-ghost use Rattle.mlu.specs.Commands.{IsOutcome, AreTexts, IsTable, IsPointOf};
+ghost use Rattle.std.specs.Prelude.{◌≡◌, length, MatchOption, IfOk, IsTrue, ◌↔◌};
+ghost use Rattle.mlu.specs.Words.{text, line_of, lines_of, decimal_of, IsTextOf, IsNoList, IsNoDecimal, HasPlainStart};
 
 use crate::element::Element;
-use crate::fault::Fault;
-use crate::point::Point;
-use crate::poly::Poly;
 use mlu_lanes::MODULUS;
 use std::alloc::{AllocError, Global};
 use std::fmt::Write;
@@ -23,8 +18,8 @@ fn has_plain_start(word: &str) -> bool
 }
 
 /// The element of which the word is the decimal.
-fn number(word: &str) -> Option<Element>
-    ensures { MatchOption result ((x : Element) → decimal_of x ≢ word.now) (λ x. decimal_of x ≡ word.now) }
+pub fn number(word: &str) -> Option<Element>
+    ensures { MatchOption result (IsNoDecimal word.now) (λ x. decimal_of x ≡ word.now) }
 {
     // `parse` takes a plus sign and leading zeros too.
     if !has_plain_start(word) {
@@ -37,8 +32,8 @@ fn number(word: &str) -> Option<Element>
 }
 
 /// How many entries the list has of which the word is the text. Takes no memory.
-fn count(word: &str) -> Option<usize>
-    ensures { MatchOption result (IsNoList word.now) (λ n. (xs : List Element) × (text xs ≡ word.now) × (length xs ≡ n)) }
+pub fn count(word: &str) -> Option<usize>
+    ensures { MatchOption result (IsNoList word.now) (λ n. IsTextOf n word.now) }
 {
     if word == NONE {
         return Some(0);
@@ -52,9 +47,10 @@ fn count(word: &str) -> Option<usize>
 }
 
 /// The list of which the word is the text. Asks for such a word, and for the number of entries.
-fn read(alloc: Global, word: &str, n: usize) -> Result<Vec<Element>, AllocError>
-    requires { (xs : List Element) × (text xs ≡ word.now) × (length xs ≡ n) }
-    ensures { IfOk result (λ list. text list.items ≡ word.now) }
+pub fn read(alloc: Global, word: &str, n: usize) -> Result<Vec<Element>, AllocError>
+    requires { IsTextOf n word.now }
+    ensures text { IfOk result (λ list. text list.items ≡ word.now) }
+    ensures size { IfOk result (λ list. length list.items ≡ n) }
 {
     let mut list = Vec::with_capacity(alloc, n)?;
     if word == NONE {
@@ -64,28 +60,6 @@ fn read(alloc: Global, word: &str, n: usize) -> Result<Vec<Element>, AllocError>
         list.push(number(piece).unwrap())?;
     }
     Ok(list)
-}
-
-/// The table and the point of which the words are the texts. Nothing is read before both words
-/// are counted, so that a fault of theirs is named whatever memory does.
-pub fn table_and_point(
-    alloc: Global,
-    table: &str,
-    point: &str,
-) -> Result<(Poly<Element>, Point<Element>), Fault>
-    ensures { IsOutcome (AreTexts table.now point.now) IsTable IsPointOf (λ x both. both ≡ x) result }
-{
-    let entries = count(table).ok_or(Fault::Number)?;
-    let coordinates = count(point).ok_or(Fault::Number)?;
-    if !entries.is_power_of_two() {
-        return Err(Fault::Length);
-    }
-    if entries.trailing_zeros() as usize != coordinates {
-        return Err(Fault::Arity);
-    }
-    let table = read(alloc, table, entries)?;
-    let point = read(alloc, point, coordinates)?;
-    Ok((Poly::new(table), Point::new(point)))
 }
 
 /// The line of a list: its text and a line feed.
@@ -102,5 +76,17 @@ pub fn line(alloc: Global, list: &[Element]) -> Result<Vec<u8>, AllocError>
         write!(text, ",{value}")?;
     }
     text.push('\n')?;
+    Ok(text.into_bytes())
+}
+
+/// A line for each element.
+pub fn lines(alloc: Global, elements: &[Element]) -> Result<Vec<u8>, AllocError>
+    ensures { IfOk result (λ bytes. bytes.items ≡ lines_of elements.now) }
+{
+    let mut text = String::new(alloc);
+    for x in elements {
+        let value = x.as_canonical_u32();
+        writeln!(text, "{value}")?;
+    }
     Ok(text.into_bytes())
 }

@@ -1,6 +1,12 @@
-use Rattle.std.proofs.Common.{◌≡◌, ◌≤◌, List, [], ◌∷◌, length, map, get_or, string_bytes, sym, ◌∙◌, arith, refl, codes, inl}
-use Rattle.mlu.specs.Commands.{Eval, words_of}
+use Rattle.std.proofs.Common.{◌≡◌, ◌≤◌, ℕ, List, [], ◌∷◌, length, map, get_or, string_bytes, sym, ap, ◌∙◌, arith, inl}
+use Rattle.mlu.specs.Commands.{Eval, Msb, Lsb, FoldFirst, FoldLast, Routes}
 use Rattle.mlu.proofs.command.answer.Goals as goal
+
+two : {X : Type 0} (xs : List X) (a b : X) → 2 ≤ length xs → length xs ≤ 2 → a ≡ get_or xs 0 a → b ≡ get_or xs 1 b → xs ≡ a ∷ b ∷ []
+two [] a b low high at0 at1 = absurd (omega arith)
+two (x ∷ []) a b low high at0 at1 = absurd (omega arith)
+two (x ∷ y ∷ []) a b low high at0 at1 = cc
+two (x ∷ y ∷ z ∷ more) a b low high at0 at1 = absurd (omega arith)
 
 three : {X : Type 0} (xs : List X) (a b c : X) → 3 ≤ length xs → length xs ≤ 3 → a ≡ get_or xs 0 a → b ≡ get_or xs 1 b → c ≡ get_or xs 2 c → xs ≡ a ∷ b ∷ c ∷ []
 three [] a b c low high at0 at1 at2 = absurd (omega arith)
@@ -9,9 +15,64 @@ three (x ∷ y ∷ []) a b c low high at0 at1 at2 = absurd (omega arith)
 three (x ∷ y ∷ z ∷ []) a b c low high at0 at1 at2 = cc
 three (x ∷ y ∷ z ∷ u ∷ more) a b c low high at0 at1 at2 = absurd (omega arith)
 
+-- the texts of a name and its operands, where the name reads as the word
+module _ {X : Type 0} (text : X → List ℕ) (xs : List X) (name a : X) (read word : List ℕ) (reads : read ≡ text name) (is : read ≡ word) where
+  named-two : xs ≡ name ∷ a ∷ [] → word ∷ text a ∷ [] ≡ map text xs
+  named-two all = ap (λ w. w ∷ text a ∷ []) (sym is ∙ reads) ∙ sym (ap (map text) all)
+
+  named-three : (b : X) → xs ≡ name ∷ a ∷ b ∷ [] → word ∷ text a ∷ text b ∷ [] ≡ map text xs
+  named-three b all = ap (λ w. w ∷ text a ∷ text b ∷ []) (sym is ∙ reads) ∙ sym (ap (map text) all)
+
+pub returns-in-msb : goal.returns-in-msb
+returns-in-msb c =
+    let words = two c.args.words.now c.name-item.result c.point-item.result (omega arith) (omega arith) c.name-item.is c.point-item.is in
+    inl (
+      Msb (string_bytes c.point-item.result),
+      named-two string_bytes c.args.words.now c.name-item.result c.point-item.result _ _ c.as_str.ensures.value c.in-msb.is words,
+      rw c.as_str-in-msb.ensures.value at c.msb.ensures,
+    )
+
+pub returns-in-lsb : goal.returns-in-lsb
+returns-in-lsb c =
+    let words = two c.args.words.now c.name-item.result c.point-item.result (omega arith) (omega arith) c.name-item.is c.point-item.is in
+    inl (
+      Lsb (string_bytes c.point-item.result),
+      named-two string_bytes c.args.words.now c.name-item.result c.point-item.result _ _ c.as_str.ensures.value c.in-lsb.is words,
+      rw c.as_str-in-lsb.ensures.value at c.lsb.ensures,
+    )
+
 pub returns-in-eval : goal.returns-in-eval
 returns-in-eval c =
-    let words = three c.args.words.now c.name-item.result c.table-item.result c.point-item.result (omega arith) (omega arith) c.name-item.is c.table-item.is c.point-item.is in
-    let name : string_bytes c.name-item.result ≡ codes "eval" = sym c.as_str.ensures.value ∙ c.in-eval.is in
-    let is : words_of (Eval (string_bytes c.table-item.result) (string_bytes c.point-item.result)) ≡ map string_bytes c.args.words.now = rw (words, name) refl in
-    inl (Eval (string_bytes c.table-item.result) (string_bytes c.point-item.result), is, rw (c.as_str-in-eval.ensures.value, c.as_str-in-eval-2.ensures.value) at c.eval.ensures)
+    let words = three c.args.words.now c.name-item-then-words-lt4.result c.table-item.result c.operand-item.result (omega arith) (omega arith) c.name-item-then-words-lt4.is c.table-item.is c.operand-item.is in
+    inl (
+      Eval (string_bytes c.table-item.result) (string_bytes c.operand-item.result),
+      named-three string_bytes c.args.words.now c.name-item-then-words-lt4.result c.table-item.result _ _ c.as_str-in-len3.ensures.value c.in-eval.is c.operand-item.result words,
+      rw (c.as_str-in-eval.ensures.value, c.as_str-in-eval-2.ensures.value) at c.eval.ensures,
+    )
+
+pub returns-in-text : goal.returns-in-text
+returns-in-text c =
+    let words = three c.args.words.now c.name-item-then-words-lt4.result c.table-item.result c.operand-item.result (omega arith) (omega arith) c.name-item-then-words-lt4.is c.table-item.is c.operand-item.is in
+    inl (
+      FoldFirst (string_bytes c.table-item.result) (string_bytes c.operand-item.result),
+      named-three string_bytes c.args.words.now c.name-item-then-words-lt4.result c.table-item.result _ _ c.as_str-in-len3.ensures.value c.in-text.is c.operand-item.result words,
+      rw (c.as_str-in-text.ensures.value, c.as_str-in-text-2.ensures.value) at c.fold_first.ensures,
+    )
+
+pub returns-in-text-2 : goal.returns-in-text-2
+returns-in-text-2 c =
+    let words = three c.args.words.now c.name-item-then-words-lt4.result c.table-item.result c.operand-item.result (omega arith) (omega arith) c.name-item-then-words-lt4.is c.table-item.is c.operand-item.is in
+    inl (
+      FoldLast (string_bytes c.table-item.result) (string_bytes c.operand-item.result),
+      named-three string_bytes c.args.words.now c.name-item-then-words-lt4.result c.table-item.result _ _ c.as_str-in-len3.ensures.value c.in-text-2.is c.operand-item.result words,
+      rw (c.as_str-in-text-2-2.ensures.value, c.as_str-in-text-2-3.ensures.value) at c.fold_last.ensures,
+    )
+
+pub returns-in-routes : goal.returns-in-routes
+returns-in-routes c =
+    let words = three c.args.words.now c.name-item-then-words-lt4.result c.table-item.result c.operand-item.result (omega arith) (omega arith) c.name-item-then-words-lt4.is c.table-item.is c.operand-item.is in
+    inl (
+      Routes (string_bytes c.table-item.result) (string_bytes c.operand-item.result),
+      named-three string_bytes c.args.words.now c.name-item-then-words-lt4.result c.table-item.result _ _ c.as_str-in-len3.ensures.value c.in-routes.is c.operand-item.result words,
+      rw (c.as_str-in-routes.ensures.value, c.as_str-in-routes-2.ensures.value) at c.routes.ensures,
+    )
