@@ -9,31 +9,38 @@ log=$(mktemp)
 names=$(mktemp)
 trap 'rm -f "$log" "$names"' EXIT
 
-# Runs the refusal tests with allocation $1 of each failing.
+# Runs the tests of crate $1 with allocation 1, 2, .. of each test failing. Their lines say which calls
+# are then refused and which are served; each must be refused at some allocation, and served in the end.
 refusals() {
-  if ! (cd crates/mlu_refusals && rt try --test --fail-alloc "$1") >"$log" 2>&1; then
-    cat "$log"
-    echo "refusals: a test failed with allocation $1 refused"
+  local crate=$1 allocation served
+  : >"$names"
+  for allocation in {1..32}; do
+    if ! (cd "crates/$crate" && rt try --test --fail-alloc "$allocation") >"$log" 2>&1; then
+      cat "$log"
+      echo "$crate: a test failed with allocation $allocation refused"
+      exit 1
+    fi
+    if grep -qE '^ +refused ' "$log"; then
+      grep -oE '^ +refused .*' "$log" | sed 's/^ *refused //' >>"$names"
+    elif [ -s "$names" ]; then
+      break
+    fi
+  done
+
+  served=$(grep -oE '^ +served .*' "$log" | sed 's/^ *served //' | sort)
+  if [ -z "$served" ] || grep -qE '^ +refused ' "$log"; then
+    echo "$crate: some call is refused whichever allocation fails"
     exit 1
   fi
-  grep -oE '^ +refused .*' "$log" | sed 's/^ *refused //' >>"$names" || true
+  if [ "$served" != "$(sort -u "$names")" ]; then
+    echo "$crate: each call is refused at least once, but for these:"
+    comm -3 <(echo "$served") <(sort -u "$names")
+    exit 1
+  fi
+  echo "$crate: $(echo "$served" | wc -l) calls, each allocation refused in turn"
 }
 
-for allocation in 1 2 3 4 5 6 7 8; do
-  refusals "$allocation"
-  grep -qE '^ +refused ' "$log" || break
-done
-
-served=$(grep -oE '^ +served .*' "$log" | sed 's/^ *served //' | sort)
-if [ -z "$served" ] || grep -qE '^ +refused ' "$log"; then
-  echo "refusals: some call is refused whichever allocation fails"
-  exit 1
-fi
-if [ "$served" != "$(sort -u "$names")" ]; then
-  echo "refusals: each call is refused at least once, but for these:"
-  comm -3 <(echo "$served") <(sort -u "$names")
-  exit 1
-fi
-echo "refusals: $(echo "$served" | wc -l) calls, each allocation refused in turn"
+refusals mlu_refusals
+refusals mlu
 
 exec rt ci

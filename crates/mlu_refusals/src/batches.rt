@@ -42,3 +42,15 @@ fn eval_eq_base_batch_added(rt: HostRuntime) -> Result<(), Fail> {
     assert!(rt; out == wanted.map(element));
     Ok(())
 }
+
+#[test]
+fn no_points_take_no_memory(rt: HostRuntime) {
+    let matrix: RowMajorMatrixView<'_, Element> = RowMajorMatrixView::new(&[], 0);
+    let mut out = [9; 3].map(element);
+    assert!(rt; eval_eq_batch::<Element, Element, true>(rt.alloc(), matrix, &mut out, &[]).is_ok());
+    assert!(rt; out == [9; 3].map(element));
+    assert!(rt;
+        eval_eq_base_batch::<Element, Element, false>(rt.alloc(), matrix, &mut out, &[]).is_ok()
+    );
+    assert!(rt; out == [0; 3].map(element));
+}

@@ -11,6 +11,14 @@
 #[cfg(test)]
 mod batches;
 #[cfg(test)]
+mod evaluations;
+#[cfg(test)]
 mod outcome;
 #[cfg(test)]
 mod points;
+#[cfg(test)]
+mod polys;
+#[cfg(test)]
+mod splits;
+#[cfg(test)]
+mod views;
