@@ -7,6 +7,7 @@ pub mod Joined
 pub mod Unique
 pub mod Doubling
 pub mod Successor
+pub mod Shifted
 pub mod Zips
 pub mod Univariate
 pub mod Padded

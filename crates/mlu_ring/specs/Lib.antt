@@ -1,5 +1,6 @@
 pub mod Ring
 pub mod Sums
 pub mod Tables
+pub mod Successor
 pub mod Lanes
 pub mod Matrices
