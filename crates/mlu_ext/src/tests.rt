@@ -1,5 +1,6 @@
 //! Worked values, and a call of each item through its bound.
 mod bounds;
+mod products;
 mod rows;
 
 use crate::QuarticExtension;

@@ -156,7 +156,7 @@ fn bytes_up_to_the_greatest(rt: HostRuntime) {
 }
 
 /// Each coefficient is `c`, and the first one then 2 c.
-fn doubled<F: Field, EF: ExtensionField<F>>(c: F) -> F
+pub fn doubled<F: Field, EF: ExtensionField<F>>(c: F) -> F
     requires { 0 < EF.DIMENSION }
 {
     let mut element = EF::from_coefficients_fn(|_k| c);
@@ -166,7 +166,7 @@ fn doubled<F: Field, EF: ExtensionField<F>>(c: F) -> F
 }
 
 /// The first coefficient of each lane doubled
-fn doubled_lanes<F: Field, EF: ExtensionField<F>>(values: &[EF], out: &mut [EF]) -> EF
+pub fn doubled_lanes<F: Field, EF: ExtensionField<F>>(values: &[EF], out: &mut [EF]) -> EF
     requires coefficients { 0 < EF.DIMENSION }
     requires lanes { 0 < F.Packing.WIDTH }
     requires read { length values.now ≡ F.Packing.WIDTH }
@@ -180,7 +180,7 @@ fn doubled_lanes<F: Field, EF: ExtensionField<F>>(values: &[EF], out: &mut [EF])
 }
 
 /// The lanes of all values, added up
-fn sum_of_lanes<F: Field, EF: ExtensionField<F>>(packed: &[EF::ExtensionPacking]) -> EF {
+pub fn sum_of_lanes<F: Field, EF: ExtensionField<F>>(packed: &[EF::ExtensionPacking]) -> EF {
     let mut sum = EF::ZERO;
     for element in EF::ExtensionPacking::to_ext_iter(packed) {
         sum = sum + element;
