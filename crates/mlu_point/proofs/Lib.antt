@@ -3,6 +3,7 @@ pub mod Sizes
 pub mod Suffixes
 pub mod Equality
 pub mod Selection
+pub mod Steps
 pub mod Expansion
 pub mod Transposes
 pub mod Batches

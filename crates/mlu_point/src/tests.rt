@@ -4,6 +4,7 @@ ghost use Rattle.std.specs.Prelude.{◌≡◌, ◌<◌, length, IfOk};
 mod batches;
 mod evaluations;
 mod points;
+mod products;
 mod tables;
 
 use crate::point::Point;
@@ -73,6 +74,7 @@ fn calls<F: Field + Drop, EF: ExtensionField<F> + Drop>(
     evaluations::points::<EF>(rt, alloc)?;
     evaluations::side_by_side::<EF>(rt, alloc)?;
     evaluations::rows::<F, EF>(rt, alloc)?;
+    evaluations::steps::<EF>(rt, alloc)?;
     batches::rows::<F, EF>(rt, alloc)?;
     batches::rows_of_the_base::<F, EF>(rt, alloc)?;
     batches::without_points::<F, EF>(rt, alloc)

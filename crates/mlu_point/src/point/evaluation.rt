@@ -3,7 +3,9 @@ ghost use Rattle.std.specs.Prelude.{◌≡◌, ◌-◌, ◌^◌, ◌<◌, ◌++�
 ghost use Rattle.mlu_ring.specs.Tables.{weights, value, vertex, powers};
 ghost use Rattle.mlu_ring.specs.Matrices.{dimension, transposed};
 ghost use Rattle.mlu_point.specs.Powers.{powers_below};
+ghost use Rattle.mlu_ring.specs.Successor.{next};
 ghost use Rattle.mlu_point.specs.Factors.{eq_factor, power_factor};
+ghost use Rattle.mlu_point.specs.Steps.{carried, stepped, stayed};
 
 use super::owned::Point;
 use super::table::bit_at;
@@ -65,6 +67,36 @@ impl<F: Field> Point<F> {
             power = power.square();
         }
         product
+    }
+
+    /// What `row` weighs of the successors of the rows that `point` weighs, in three parts: the
+    /// step that leaves the first coordinate, since every bit goes from 1 to 0; the steps to the
+    /// next row; and that of the last row, which is its own successor. Asks for equal lengths.
+    ///
+    /// The last two add up to the whole. The first is for a caller who goes on at coordinates in
+    /// front of these.
+    pub fn eval_next(point: &[F], row: &[F]) -> (F, F, F)
+        requires { length point.now ≡ length row.now }
+        ensures carry { result.0 ≡ carried F.ring point.now row.now }
+        ensures done { result.1 ≡ stepped F.ring point.now row.now }
+        ensures last { result.2 ≡ stayed F.ring point.now row.now }
+        ensures whole { F.ring.sum result.1 result.2 ≡ value F.ring (next F.ring (weights F.ring point.now)) row.now }
+    {
+        let mut carry = F::ONE;
+        let mut done = F::ZERO;
+        let mut last = F::ONE;
+        for k in 0..point.len() {
+            let coordinate = point.len() - 1 - k;
+            let from = point[coordinate];
+            let to = row[coordinate];
+            let both = from * to;
+            let leaves = from - both;
+            let settles = to - both;
+            done = done * (F::ONE - leaves - settles) + carry * settles;
+            carry = carry * leaves;
+            last = last * both;
+        }
+        (carry, done, last)
     }
 
     /// The matrix whose row `j` is coordinate `j` of each point, or coordinate `k - 1 - j` of `k`

@@ -46,6 +46,21 @@ pub fn rows<F: Field + Drop, EF: ExtensionField<F> + Drop>(
     Ok(())
 }
 
+pub fn steps<F: Field>(rt: &impl Abort, alloc: Global) -> Result<(), Fail> {
+    let point: Vec<F> = elements(alloc, &[2, 3])?;
+    let row: Vec<F> = elements(alloc, &[5, 7])?;
+    let parts = Point::eval_next(point.as_slice(), row.as_slice());
+    assert!(rt; parts == (element(144), element(-106), element(210)));
+    let (zero, one) = (F::ZERO, F::ONE);
+    let none: Vec<F> = elements(alloc, &[])?;
+    assert!(rt; Point::eval_next(none.as_slice(), none.as_slice()) == (one, zero, one));
+    let first: Vec<F> = elements(alloc, &[0])?;
+    let second: Vec<F> = elements(alloc, &[1])?;
+    let step = Point::eval_next(first.as_slice(), second.as_slice());
+    assert!(rt; step == (zero, one, zero));
+    Ok(())
+}
+
 pub fn draws<F: Field + Sample + Drop, EF: ExtensionField<F> + Sample + Drop>(
     rt: &impl Abort,
     alloc: Global,
@@ -53,7 +68,31 @@ pub fn draws<F: Field + Sample + Drop, EF: ExtensionField<F> + Sample + Drop>(
     let mut rng = Pcg32::seed_from_u64(11);
     for n in 0..6 {
         drawn_values::<F, EF>(rt, alloc, &mut rng, n)?;
+        drawn_steps::<EF>(rt, alloc, &mut rng, n)?;
     }
+    Ok(())
+}
+
+/// The parts of a step against the sum over all rows but the last, and the products at the ends.
+fn drawn_steps<R: Field + Sample + Drop>(
+    rt: &impl Abort,
+    alloc: Global,
+    rng: &mut Pcg32,
+    n: usize,
+) -> Result<(), Fail>
+    requires { n < 6 }
+{
+    let point: Point<R> = Point::rand(alloc, rng, n)?;
+    let row: Point<R> = Point::rand(alloc, rng, n)?;
+    let (p, r) = (point.as_slice(), row.as_slice());
+    let top = (1 << n) - 1;
+    let mut steps = R::ZERO;
+    for x in 0..top {
+        steps = steps + plain_weight(p, 1, 0, x) * plain_weight(r, 1, 0, x + 1);
+    }
+    let leaves = plain_weight(p, 1, 0, top) * plain_weight(r, 1, 0, 0);
+    let stays = plain_weight(p, 1, 0, top) * plain_weight(r, 1, 0, top);
+    assert!(rt; Point::eval_next(p, r) == (leaves, steps, stays));
     Ok(())
 }
 
