@@ -153,7 +153,7 @@ module _ {P V : Type 0} (packed : Ring P) (ring : Ring V) (laws : RingLaws ring)
       zip_block_more lanes n parts.length-parts ring.sum ps old (map (ring.product x) e) z p (packed.sum p (packed.product q b)) h many (long ∙ sym (length-map e (ring.product x))) is at_p
       (each.sum p (packed.product q b) ∙ ap (λ vs. zip2 ring.sum (lanes p) vs) block)
 
-  lanes-product_splat : (p b : P) (x : V) → lanes b ≡ replicate n x → lanes (packed.product p b) ≡ map (ring.product x) (lanes p)
+  pub lanes-product_splat : (p b : P) (x : V) → lanes b ≡ replicate n x → lanes (packed.product p b) ≡ map (ring.product x) (lanes p)
   lanes-product_splat p b x is =
       each.product p b
       ∙ ap (λ vs. zip2 ring.product (lanes p) vs) is

@@ -49,9 +49,10 @@ pub fn compress_hi_dot_packed_eager<F: Field, EF: ExtensionField<F>>(
     lane_total::<F, EF>(sum)
 }
 
-/// The packed weights times a row: a value whose lanes add up to the dot.
+/// The packed weights times a row: a value whose lanes add up to the dot. Asks for as many entries
+/// as the weights have lanes.
 #[inline]
-fn packed_dot<F: Field, EF: ExtensionField<F>>(
+pub fn packed_dot<F: Field, EF: ExtensionField<F>>(
     eq1: &[EF::ExtensionPacking],
     row: &[F],
 ) -> EF::ExtensionPacking

@@ -14,7 +14,7 @@
 mod dot;
 mod prefix;
 
-pub use dot::{compress_hi_dot_packed, compress_hi_dot_packed_eager, lane_total};
+pub use dot::{compress_hi_dot_packed, compress_hi_dot_packed_eager, lane_total, packed_dot};
 pub use prefix::{
     add_row, compress_prefix_to_packed_packed, compress_prefix_to_packed_packed_kernel_eager,
 };

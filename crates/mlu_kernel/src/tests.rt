@@ -3,7 +3,7 @@ ghost use Rattle.std.specs.Prelude.{◌≡◌, ◌<◌, ◌*◌, IfOk, length, v
 
 use crate::{
     compress_hi_dot_packed, compress_hi_dot_packed_eager, compress_prefix_to_packed_packed,
-    compress_prefix_to_packed_packed_kernel_eager,
+    compress_prefix_to_packed_packed_kernel_eager, lane_total, packed_dot,
 };
 use mlu_ext::QuarticExtension;
 use mlu_lanes::{BabyBear, Lanes};
@@ -28,6 +28,14 @@ fn dot_of_two_rows(rt: HostRuntime) {
         compress_hi_dot_packed_eager(&eq1, &chunk, &bears![1, 10]),
         sum
     );
+}
+
+#[test]
+fn lanes_of_one_row(rt: HostRuntime) {
+    let eq1 = [Lanes::from_array(bears![1, 2, 3, 4])];
+    let dot = packed_dot::<BabyBear<4>, BabyBear<4>>(&eq1, &bears![5, 6, 7, 8]);
+    let [sum] = bears![70];
+    assert_eq!(rt; lane_total::<BabyBear<4>, BabyBear<4>>(dot), sum);
 }
 
 #[test]
