@@ -1,5 +1,5 @@
 -- The number of weights of a half table, each lane counted.
-use Rattle.std.proofs.Common.{◌≡◌, ℕ, ◌+◌, ◌*◌, ◌/◌, ◌^◌, ◌<◌, ◌≤◌, ap, sym, ◌∙◌, subst, pow-add, arith}
+use Rattle.std.proofs.Common.{◌≡◌, ℕ, zero, suc, ◌+◌, ◌-◌, ◌*◌, ◌/◌, ◌^◌, ◌<◌, ◌≤◌, ap, sym, ◌∙◌, subst, pow-add, arith}
 use Rattle.std.specs.Prelude.{IsTrue}
 use Rattle.std.specs.Int.{is_power_of_two}
 use Rattle.std.specs.Int.Count.{count_trailing_zeros}
@@ -34,3 +34,17 @@ pub cancel_width : (a b c w l : ℕ) → w ≡ 2 ^ l → a * w ≡ b * (c * w) �
 cancel_width a b c w l width is =
     let positive : 0 < w = subst (λ x. 0 < x) (sym width) (pow_pos l) in
     sym (mul-div_cancel a positive) ∙ ap (λ x. x / w) (is ∙ sym (mul_assoc b c w)) ∙ mul-div_cancel (b * c) positive
+
+-- the last of n groups of w, at its last lane
+pub last_place : (n w : ℕ) → 0 < n → 0 < w → (n - 1) * w + (w - 1) ≡ n * w - 1
+last_place (suc n) w some wide =
+    let before : suc n - 1 ≡ n = omega arith in
+    let row : suc n * w ≡ n * w + w = omega arith in
+    let last : n * w + (w - 1) ≡ suc n * w - 1 = omega (arith, row, wide) in
+    ap (λ k. k * w + (w - 1)) before ∙ last
+last_place zero w some wide = absurd (omega arith)
+
+-- lanes are those of some packed values
+pub some_values : (n w k : ℕ) → k + 1 ≡ n * w → 0 < n
+some_values zero w k h = absurd (omega (arith, h))
+some_values (suc n) w k h = omega arith

@@ -1,9 +1,12 @@
 pub mod Accumulations
+pub mod Borders
 pub mod Compressions
 pub mod Contents
 pub mod Evaluations
 pub mod Folds
 pub mod Groups
 pub mod Lengths
+pub mod Moved
 pub mod Products
+pub mod Shifted
 pub mod Zipped

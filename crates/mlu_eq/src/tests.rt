@@ -11,6 +11,7 @@ use mlu_ring::{Additive, ExtensionField, PackedFieldExtension, PackedValue};
 use std::test::Fail;
 
 mod halves;
+mod successor;
 mod sums;
 
 type Bear = BabyBear<4>;

@@ -2,13 +2,15 @@
 //!
 //! The kernels take the other half, `eq0`, as a slice, and never form the whole table: its entry
 //! `x` is `eq0[x / n] * w[x % n]`, where `w` are the `n` weights. None of them takes memory.
-ghost use Rattle.std.specs.Prelude.{◌≡◌, ◌↔◌, ◌<◌, ◌^◌, length, map, IfOk, IsTrue};
+ghost use Rattle.std.specs.Prelude.{◌≡◌, ◌↔◌, ◌<◌, ◌-◌, ◌^◌, length, map, slice_index_or, IfOk, IsTrue};
 ghost use Rattle.std.specs.Int.{is_power_of_two};
 ghost use Rattle.mlu_ring.specs.Lanes.{logical};
 
 mod accumulate;
 mod dot;
+mod next;
 mod prefix;
+mod shifted;
 mod suffix;
 mod table;
 
@@ -84,6 +86,18 @@ impl<F: Field, EF: ExtensionField<F>> EqMaybePacked<F, EF> {
             Stored::Scalar(weights) => weights.as_slice().len(),
             Stored::Packed(weights) => {
                 weights.as_slice().len() * <F::Packing as PackedValue>::WIDTH
+            }
+        }
+    }
+
+    /// The last weight.
+    pub fn last_scalar(&self) -> EF
+        ensures { result ≡ slice_index_or (weights_of EF.ExtensionPacking.ext_lanes self.now) (length (weights_of EF.ExtensionPacking.ext_lanes self.now) - 1) EF.ring.zero }
+    {
+        match &self.weights {
+            Stored::Scalar(weights) => last_of(weights.as_slice()),
+            Stored::Packed(weights) => {
+                last_of(weights.as_slice()).ext_lane(<F::Packing as PackedValue>::WIDTH - 1)
             }
         }
     }
@@ -165,4 +179,13 @@ fn lane_images<F: Field, EF: ExtensionField<F>, R: MapFrom<EF>>(
     EF::ExtensionPacking::to_ext_iter(packed)
         .map(|lane| R::map(lane))
         .collect(alloc)
+}
+
+/// The last element. Asks for one or more.
+#[inline]
+fn last_of<T: Copy>(elements: &[T]) -> T
+    requires { 0 < length elements.now }
+    ensures { result ≡ slice_index_or elements.now (length elements.now - 1) result }
+{
+    elements[elements.len() - 1]
 }

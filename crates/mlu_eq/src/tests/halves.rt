@@ -42,7 +42,7 @@ fn lanes<F: Field, EF: ExtensionField<F>>(
 }
 
 /// Each entry of a first half times each weight of a second one, in order.
-fn whole_table<R: PrimeCharacteristicRing>(
+pub(super) fn whole_table<R: PrimeCharacteristicRing>(
     alloc: Global,
     eq0: &[R],
     weights: &[R],
@@ -63,7 +63,7 @@ fn whole_table<R: PrimeCharacteristicRing>(
 }
 
 /// The sum of the products, place by place.
-fn plain_dot<R: PrimeCharacteristicRing>(weights: &[R], entries: &[R]) -> R {
+pub(super) fn plain_dot<R: PrimeCharacteristicRing>(weights: &[R], entries: &[R]) -> R {
     let mut sum = R::ZERO;
     for (weight, entry) in weights.iter().zip(entries) {
         sum = sum + *weight * *entry;
@@ -72,7 +72,11 @@ fn plain_dot<R: PrimeCharacteristicRing>(weights: &[R], entries: &[R]) -> R {
 }
 
 /// Adds a row of the entries for each weight, times that weight.
-fn add_plain_rows<R: PrimeCharacteristicRing>(out: &mut [R], weights: &[R], entries: &[R])
+pub(super) fn add_plain_rows<R: PrimeCharacteristicRing>(
+    out: &mut [R],
+    weights: &[R],
+    entries: &[R],
+)
     requires { length entries.now ≡ length weights.now * length out.old }
 {
     for y in 0..weights.len() {
@@ -236,7 +240,7 @@ fn kernels_agree<F: Field + Sample, EF: ExtensionField<F> + Sample>(
 }
 
 /// The table of these weights, as scalars.
-fn scalar_half<F: Field, EF: ExtensionField<F>>(
+pub(super) fn scalar_half<F: Field, EF: ExtensionField<F>>(
     alloc: Global,
     weights: &[EF],
 ) -> Result<EqMaybePacked<F, EF>, AllocError>
@@ -247,7 +251,7 @@ fn scalar_half<F: Field, EF: ExtensionField<F>>(
 }
 
 /// The packed table of these weights, where they fill packings.
-fn packed_half<F: Field, EF: ExtensionField<F>>(
+pub(super) fn packed_half<F: Field, EF: ExtensionField<F>>(
     alloc: Global,
     weights: &[EF],
 ) -> Result<Option<EqMaybePacked<F, EF>>, AllocError>

@@ -46,7 +46,7 @@ impl<F: Field, EF: ExtensionField<F>> EqMaybePacked<F, EF> {
     }
 
     /// Adds each weight, times `factor`, to its place of `row`.
-    fn add_to_row(&self, row: &mut [EF], factor: EF)
+    pub(super) fn add_to_row(&self, row: &mut [EF], factor: EF)
         requires { length row.old ≡ length (weights_of EF.ExtensionPacking.ext_lanes self.now) }
         ensures { row.new ≡ zip2 EF.ring.sum row.old (map (EF.ring.product factor) (weights_of EF.ExtensionPacking.ext_lanes self.now)) }
     {
@@ -77,7 +77,7 @@ fn add_packed_rows<F: Field, EF: ExtensionField<F>>(
 
 /// Adds each weight, times `factor`, to its place of `out`.
 #[inline]
-fn add_multiple<R: PrimeCharacteristicRing>(out: &mut [R], weights: &[R], factor: R)
+pub(super) fn add_multiple<R: PrimeCharacteristicRing>(out: &mut [R], weights: &[R], factor: R)
     requires { length out.old ≡ length weights.now }
     ensures { out.new ≡ zip2 R.ring.sum out.old (map (R.ring.product factor) weights.now) }
 {
@@ -88,7 +88,7 @@ fn add_multiple<R: PrimeCharacteristicRing>(out: &mut [R], weights: &[R], factor
 
 /// Adds each lane, times `factor`, to its place of `out`.
 #[inline]
-fn add_lanes<F: Field, EF: ExtensionField<F>>(
+pub(super) fn add_lanes<F: Field, EF: ExtensionField<F>>(
     out: &mut [EF],
     weights: &[EF::ExtensionPacking],
     factor: EF,

@@ -110,7 +110,7 @@ fn packed_dot<F: Field, EF: ExtensionField<F>>(
 
 /// The sum of the products of weights and base entries.
 #[inline]
-fn base_products<F: Additive, EF: Algebra<F>>(weights: &[EF], entries: &[F]) -> EF
+pub(super) fn base_products<F: Additive, EF: Algebra<F>>(weights: &[EF], entries: &[F]) -> EF
     requires { length entries.now ≡ length weights.now }
     ensures { result ≡ pair EF.ring weights.now (map EF.embed entries.now) }
 {

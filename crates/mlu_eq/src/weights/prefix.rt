@@ -91,7 +91,7 @@ impl<F: Field, EF: ExtensionField<F>> EqMaybePacked<F, EF> {
 }
 
 /// Adds a row for each weight, times the weight and `factor`.
-fn add_scalar_rows<F: Additive, EF: Algebra<F>>(
+pub(super) fn add_scalar_rows<F: Additive, EF: Algebra<F>>(
     factor: EF,
     weights: &[EF],
     out: &mut [EF],
@@ -108,7 +108,7 @@ fn add_scalar_rows<F: Additive, EF: Algebra<F>>(
 }
 
 /// Adds a row for each lane of the weights, times the lane and `factor`.
-fn add_lane_rows<F: Field, EF: ExtensionField<F>>(
+pub(super) fn add_lane_rows<F: Field, EF: ExtensionField<F>>(
     factor: EF,
     weights: &[EF::ExtensionPacking],
     out: &mut [EF],
@@ -167,7 +167,7 @@ fn add_scalar_rows_to_packed<F: Field, EF: ExtensionField<F>>(
 
 /// Adds one row, times its weight.
 #[inline]
-fn add_scalar_row<F: Additive, EF: Algebra<F>>(out: &mut [EF], weight: EF, row: &[F])
+pub(super) fn add_scalar_row<F: Additive, EF: Algebra<F>>(out: &mut [EF], weight: EF, row: &[F])
     requires { length row.now ≡ length out.old }
     ensures { out.new ≡ plus_rows EF.ring out.old (weight ∷ []) (map EF.embed row.now) }
 {

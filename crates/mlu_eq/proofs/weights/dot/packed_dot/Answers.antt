@@ -1,4 +1,4 @@
-use Rattle.std.proofs.Common.{◌-◌, ◌*◌, ◌∙◌, [], length, take, drop, refl, ap, sym}
+use Rattle.std.proofs.Common.{◌*◌, ◌∙◌, [], length, take, drop, refl, ap, sym}
 use Rattle.std.proofs.lemmas.List.{take_all}
 use Rattle.mlu_ring.specs.Lanes.{logical}
 use Rattle.mlu_ring.specs.Sums.{sum_of}

@@ -1,0 +1,27 @@
+use Rattle.std.proofs.Common.{◌≡◌, ◌<◌, ◌-◌, ◌∷◌, [], ◌∙◌, map, length, take, refl, ap, sym, arith}
+use Rattle.mlu_kernel.specs.Kernels.{plus_rows}
+use Rattle.mlu_kernel.proofs.Blocks.{map-block}
+use Rattle.mlu_kernel.proofs.PlusRows.{plus_rows-none, plus_rows-take_more}
+use Rattle.mlu_eq.proofs.weights.shifted.add_first_lane_rows.Goals as goal
+
+pub loop-k-init : goal.loop-k-init
+loop-k-init g c = sym (plus_rows-none g.EF.Additive.ring g.met.EF.Additive.laws c.args.out.now [] (map g.EF.Algebra.embed c.args.rows.now) (omega arith))
+
+pub loop-k-preserved : goal.loop-k-preserved
+loop-k-preserved g c =
+    let ring = g.EF.Additive.ring in
+    let embed = g.EF.Algebra.embed in
+    let lanes = g.EF.ExtensionPacking.PackedFieldExtension.ext_lanes in
+    let long = g.met.EF.ExtensionPacking.PackedFieldExtension.lanes_are.length-parts c.args.weights in
+    let within : c.loop-k.k < length (g.EF.ExtensionPacking.PackedFieldExtension.ext_lanes c.args.weights) = omega (arith, long, c.loop-k-test.true, c.WIDTH-k-end.ensures) in
+    let r = length c.args.out.now in
+    c.add_scalar_row.ensures
+    ∙ ap (λ row. plus_rows ring c.loop-k.out (c.ext_lane.result ∷ []) row) (map-block embed c.args.rows.now c.loop-k.k r r refl)
+    ∙ plus_rows-take_more ring g.met.EF.Additive.laws c.args.out.now (lanes c.args.weights) (map embed c.args.rows.now) c.loop-k.out c.loop-k.k r c.ext_lane.result
+    within refl (c.ext_lane.ensures c.ext_lane.result) c.loop-k.invariant
+
+pub returns : goal.returns
+returns g c =
+    let lanes = g.EF.ExtensionPacking.PackedFieldExtension.ext_lanes c.args.weights in
+    let end : c.loop-k.k ≡ g.F.Packing.PackedValue.WIDTH - 1 = omega (arith, c.WIDTH-k-end.ensures) in
+    c.loop-k.invariant ∙ ap (λ k. plus_rows g.EF.Additive.ring c.args.out.now (take k lanes) (map g.EF.Algebra.embed c.args.rows.now)) end
