@@ -4,7 +4,7 @@
 //! scale, and `eq1`, the weights of the others, as scalars or packed. With `L` weights in `eq1`,
 //! entry `x` of the whole table is `eq0[x / L] * eq1[x % L]`; it takes the memory of two tables of
 //! half as many variables. Evaluations, accumulations and compressions go over the halves.
-ghost use Rattle.std.specs.Prelude.{◌≡◌, ◌-◌, ◌/◌, ◌^◌, ◌<◌, ◌≤◌, ◌↔◌, length, map, IfOk};
+ghost use Rattle.std.specs.Prelude.{◌≡◌, ◌-◌, ◌/◌, ◌^◌, ◌<◌, ◌≤◌, ◌↔◌, length, map, slice_index_or, IfOk};
 ghost use Rattle.mlu_ring.specs.Tables.{weights};
 ghost use Rattle.mlu_eq.specs.Weights.{IsPacked, weights_of};
 
@@ -100,6 +100,14 @@ impl<F: Field, EF: ExtensionField<F>> SplitEq<F, EF> {
         ensures { length (split_entries EF.ring EF.ExtensionPacking.ext_lanes self.now) ≡ 2 ^ result }
     {
         self.eq0.num_variables() + self.eq1.num_variables()
+    }
+
+    /// The last entry of the table.
+    pub fn last_scalar(&self) -> EF
+        ensures { result ≡ slice_index_or (split_entries EF.ring EF.ExtensionPacking.ext_lanes self.now) (length (split_entries EF.ring EF.ExtensionPacking.ext_lanes self.now) - 1) EF.ring.zero }
+    {
+        let eq0 = self.eq0.as_slice();
+        eq0[eq0.len() - 1] * self.eq1.last_scalar()
     }
 
     /// The first half, with the scale in it.

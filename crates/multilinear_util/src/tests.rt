@@ -9,6 +9,7 @@ mod plain;
 mod polys;
 mod splits;
 mod storages;
+mod successors;
 mod tables;
 
 use crate::poly::Poly;

@@ -1,7 +1,8 @@
 //! The value of a polynomial at a point.
 ghost use Rattle.std.specs.Prelude.{◌≡◌, ◌+◌, ◌<◌, ◌*◌, ◌^◌, length, map, IfOk, IsOk};
 ghost use Rattle.mlu_ring.specs.Lanes.{logical};
-ghost use Rattle.mlu_ring.specs.Tables.{value};
+ghost use Rattle.mlu_ring.specs.Successor.{next};
+ghost use Rattle.mlu_ring.specs.Tables.{pair, value, weights};
 ghost use Rattle.multilinear_util.specs.Thresholds.{threshold};
 ghost use Rattle.multilinear_util.specs.Views.{entries};
 
@@ -27,8 +28,8 @@ fn recursion_threshold(bytes: usize) -> usize
 
 impl<F: Field> PolyView<'_, F> {
     /// The value at a point of the extension `EF`. Asks for a point with as many coordinates as
-    /// there are variables. Takes no memory below 9 variables where a value of the table takes at most 4 bytes,
-    /// else below 10.
+    /// there are variables. Takes no memory below 9 variables where a value of the table takes at
+    /// most 4 bytes, else below 10.
     ///
     /// # Errors
     /// Where memory is refused.
@@ -46,6 +47,24 @@ impl<F: Field> PolyView<'_, F> {
         }
         let split = SplitEq::<F, EF>::new_packed(alloc, point, EF::ONE)?;
         Ok(split.eval_base(*self))
+    }
+
+    /// The sum of the values, each times the weights at the point of the vertices that it is the
+    /// next of: the weight of `x` times value `x + 1`, and the last weight times the last value.
+    /// Asks for a point with as many coordinates as there are variables.
+    ///
+    /// # Errors
+    /// Where memory is refused.
+    pub fn eval_next_base<EF: ExtensionField<F>>(
+        &self,
+        alloc: Global,
+        point: &Point<EF>,
+    ) -> Result<EF, AllocError>
+        requires { length (entries self.now) ≡ 2 ^ length point.now }
+        ensures { IfOk result (λ x. x ≡ pair EF.ring (next EF.ring (weights EF.ring point.now)) (map EF.embed (entries self.now))) }
+    {
+        let split = SplitEq::<F, EF>::new_packed(alloc, point, EF::ONE)?;
+        Ok(split.eval_next_base(*self))
     }
 
     /// The value at a point of the table's own field, an extension of `BaseField`. Asks for a point
@@ -123,6 +142,23 @@ impl<F: Field> Poly<F> {
         ensures small { length point.now < threshold F.bytes_of → IsOk result }
     {
         self.as_view().eval_base(alloc, point)
+    }
+
+    /// The sum of the values, each times the weights at the point of the vertices that it is the
+    /// next of: the weight of `x` times value `x + 1`, and the last weight times the last value.
+    /// Asks for a point with as many coordinates as there are variables.
+    ///
+    /// # Errors
+    /// Where memory is refused.
+    pub fn eval_next_base<EF: ExtensionField<F>>(
+        &self,
+        alloc: Global,
+        point: &Point<EF>,
+    ) -> Result<EF, AllocError>
+        requires { length self.now ≡ 2 ^ length point.now }
+        ensures { IfOk result (λ x. x ≡ pair EF.ring (next EF.ring (weights EF.ring point.now)) (map EF.embed self.now)) }
+    {
+        self.as_view().eval_next_base(alloc, point)
     }
 
     /// The value at a point of the table's own field, an extension of `BaseField`. Asks for a point

@@ -1,12 +1,13 @@
 //! Equality tables as polynomials.
 ghost use Rattle.std.specs.Prelude.{◌≡◌, ◌^◌, ◌<◌, ◌≤◌, length, map, IfOk};
 ghost use Rattle.mlu_ring.specs.Lanes.{logical};
+ghost use Rattle.mlu_ring.specs.Successor.{next};
 ghost use Rattle.mlu_ring.specs.Tables.{weights};
 
 use super::{Poly, table_length};
 use mlu_point::point::{BitOrder, fill_equality_table};
 use mlu_ring::{
-    Algebra, ExtensionField, Field, Lanewise, PackedFieldExtension, PackedValue,
+    Additive, Algebra, ExtensionField, Field, Lanewise, PackedFieldExtension, PackedValue,
     PrimeCharacteristicRing,
 };
 use std::alloc::{AllocError, Global};
@@ -25,6 +26,33 @@ impl<F: PrimeCharacteristicRing> Poly<F> {
         fill_equality_table(evals.as_mut_slice(), point, BitOrder::Msb, scale);
         Ok(Poly::new(evals))
     }
+
+    /// The weights at the point, each moved to the next vertex: entry `x` is the weight of the
+    /// vertex before `x`, and the last entry has the last weight too. Asks that `2^n` fits a word,
+    /// where the point has `n` coordinates.
+    ///
+    /// # Errors
+    /// Where the memory for the table is refused.
+    pub fn new_next_from_point(alloc: Global, point: &[F]) -> Result<Self, AllocError>
+        requires { 2 ^ length point.now < 2 ^ 64 }
+        ensures { IfOk result (λ poly. poly ≡ next F.ring (weights F.ring point.now)) }
+    {
+        let mut table = Poly::new_from_point(alloc, point, F::ONE)?;
+        move_to_next(table.as_mut_slice());
+        Ok(table)
+    }
+}
+
+/// Moves each weight to the next place; the last one stays too.
+fn move_to_next<R: Additive>(weights: &mut [R])
+    requires { 0 < length weights.old }
+    ensures { weights.new ≡ next R.ring weights.old }
+{
+    weights.rotate_right(1);
+    let last = weights[0];
+    weights[0] = R::ZERO;
+    let top = weights.len() - 1;
+    weights[top] = weights[top] + last;
 }
 
 impl<A: Copy> Poly<A> {

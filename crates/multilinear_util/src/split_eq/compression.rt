@@ -1,6 +1,7 @@
 //! Compressions of a polynomial by a split table, whose variables are the first or the last ones.
 ghost use Rattle.std.specs.Prelude.{◌≡◌, ◌*◌, ◌≤◌, length, map, IfOk};
 ghost use Rattle.mlu_ring.specs.Lanes.{logical};
+ghost use Rattle.mlu_ring.specs.Successor.{shifted};
 ghost use Rattle.mlu_ring.specs.Tables.{front, back};
 ghost use Rattle.multilinear_util.specs.Views.{entries};
 
@@ -83,5 +84,43 @@ impl<F: Field, EF: ExtensionField<F>> SplitEq<F, EF> {
     {
         self.eq1
             .compress_suffix_into(self.eq0.as_slice(), out, poly.as_slice());
+    }
+
+    /// [`SplitEq::compress_prefix`] by the table moved up by one place: each value meets the entry
+    /// before its own, and the first one none.
+    ///
+    /// # Errors
+    /// Where the memory for the values that are left is refused.
+    pub fn compress_prefix_shifted(
+        &self,
+        alloc: Global,
+        poly: PolyView<'_, F>,
+    ) -> Result<Poly<EF>, AllocError>
+        requires { length (split_entries EF.ring EF.ExtensionPacking.ext_lanes self.now) ≤ length (entries poly) }
+        ensures { IfOk result (λ folded. folded ≡ front EF.ring (shifted EF.ring (split_entries EF.ring EF.ExtensionPacking.ext_lanes self.now)) (map EF.embed (entries poly.entry))) }
+    {
+        let mut out = Poly::zero(alloc, poly.num_variables() - self.num_variables())?;
+        self.eq1
+            .compress_prefix_shifted_into(self.eq0.as_slice(), out.as_mut_slice(), poly.as_slice());
+        Ok(out)
+    }
+
+    /// [`SplitEq::compress_suffix`] by the table moved up by one place: each value meets the entry
+    /// before its own, and the first one of each row none.
+    ///
+    /// # Errors
+    /// Where the memory for the values that are left is refused.
+    pub fn compress_suffix_shifted(
+        &self,
+        alloc: Global,
+        poly: PolyView<'_, F>,
+    ) -> Result<Poly<EF>, AllocError>
+        requires { length (split_entries EF.ring EF.ExtensionPacking.ext_lanes self.now) ≤ length (entries poly) }
+        ensures { IfOk result (λ folded. folded ≡ back EF.ring (shifted EF.ring (split_entries EF.ring EF.ExtensionPacking.ext_lanes self.now)) (map EF.embed (entries poly.entry))) }
+    {
+        let mut out = Poly::zero(alloc, poly.num_variables() - self.num_variables())?;
+        self.eq1
+            .compress_suffix_shifted_into(self.eq0.as_slice(), out.as_mut_slice(), poly.as_slice());
+        Ok(out)
     }
 }

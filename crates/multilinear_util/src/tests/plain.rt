@@ -113,3 +113,20 @@ pub fn is_accumulated<R: PrimeCharacteristicRing>(
     }
     agrees
 }
+
+/// The last entry, and zero of none.
+pub fn last<R: PrimeCharacteristicRing>(entries: &[R]) -> R {
+    entries.last().copied().unwrap_or(R::ZERO)
+}
+
+/// The entries moved up by one place: zero, and then all but the last.
+pub fn moved<R: PrimeCharacteristicRing>(
+    alloc: Global,
+    entries: &[R],
+) -> Result<Vec<R>, AllocError> {
+    let mut moved = R::zero_vec(alloc, entries.len())?;
+    for x in 1..entries.len() {
+        moved[x] = entries[x - 1];
+    }
+    Ok(moved)
+}

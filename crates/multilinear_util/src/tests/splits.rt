@@ -3,7 +3,7 @@
 ghost use Rattle.std.specs.Prelude.{◌≡◌, ◌≤◌, ◌<◌, ◌^◌, length};
 ghost use Rattle.multilinear_util.specs.Split.{split_entries};
 
-use super::plain;
+use super::{plain, successors};
 use crate::point::Point;
 use crate::poly::Poly;
 use crate::split_eq::SplitEq;
@@ -116,7 +116,12 @@ fn answers<F: Field + Sample, EF: ExtensionField<F> + Sample>(
             && accumulates(alloc, &mut rng, &unpacked, &table, variables)?
             && accumulates(alloc, &mut rng, &packed, &table, variables)?
             && compresses(alloc, &mut rng, &unpacked, &table, variables)?
-            && compresses(alloc, &mut rng, &packed, &table, variables)?,
+            && compresses(alloc, &mut rng, &packed, &table, variables)?
+            && successors::steps(alloc, &mut rng, &unpacked, &table, variables)?
+            && successors::steps(alloc, &mut rng, &packed, &table, variables)?
+            && successors::moves(alloc, &mut rng, &unpacked, &table, variables)?
+            && successors::moves(alloc, &mut rng, &packed, &table, variables)?
+            && successors::at_a_point::<F, EF>(alloc, &mut rng, &point, variables)?,
     )
 }
 
