@@ -7,11 +7,13 @@ use Rattle.mlu.specs.Elements.{Element, elements}
 use Rattle.mlu.specs.Operands.{IsText, AreTexts, AreTextAndDecimal, IsTable, IsPointOf, HasVariable, IsShort, StandsAlone}
 use Rattle.mlu.specs.Outcomes.{IsOutcome}
 use Rattle.mlu.specs.Words.{line_of, lines_of}
-use Rattle.mlu_ring.specs.Tables.{value, weights, lsb, line, front, back}
+use Rattle.mlu_ring.specs.Successor.{next}
+use Rattle.mlu_ring.specs.Tables.{value, pair, weights, lsb, line, front, back}
 
 -- what is asked for, with the words of its operands
 pub data Command : Type 0 where
   Eval : List ℕ → List ℕ → Command
+  Next : List ℕ → List ℕ → Command
   Msb : List ℕ → Command
   Lsb : List ℕ → Command
   FoldFirst : List ℕ → List ℕ → Command
@@ -21,6 +23,7 @@ pub data Command : Type 0 where
 -- the words that ask for it
 abbrev pub words_of : Command → List (List ℕ)
 words_of (Eval table point) = codes "eval" ∷ table ∷ point ∷ []
+words_of (Next table point) = codes "next" ∷ table ∷ point ∷ []
 words_of (Msb point) = codes "msb" ∷ point ∷ []
 words_of (Lsb point) = codes "lsb" ∷ point ∷ []
 words_of (FoldFirst table number) = codes "fold-first" ∷ table ∷ number ∷ []
@@ -38,6 +41,7 @@ PrintsFour element x bytes = bytes.items ≡ lines_of (replicate 4 (element x))
 -- what the command comes to
 abbrev pub Answers : Command → Result (Vec ℕ Global) Fault → Type 0
 Answers (Eval table point) = IsOutcome (AreTexts table point) IsTable IsPointOf (Prints (λ x. value elements x.0 x.1 ∷ []))
+Answers (Next table point) = IsOutcome (AreTexts table point) IsTable IsPointOf (Prints (λ x. pair elements (next elements (weights elements x.1)) x.0 ∷ []))
 Answers (Msb point) = IsOutcome (IsText point) IsShort StandsAlone (Prints (weights elements))
 Answers (Lsb point) = IsOutcome (IsText point) IsShort StandsAlone (Prints (lsb elements))
 Answers (FoldFirst table number) = IsOutcome (AreTextAndDecimal table number) IsTable HasVariable (Prints (λ x. front elements (line elements x.1) x.0))

@@ -1,6 +1,6 @@
 //! What the program answers to its words.
 ghost use Rattle.std.specs.Prelude.{map, string_bytes};
-ghost use Rattle.mlu.specs.Commands.{Eval, Msb, Lsb, FoldFirst, FoldLast, Routes, Answers, AnswersWords};
+ghost use Rattle.mlu.specs.Commands.{Eval, Next, Msb, Lsb, FoldFirst, FoldLast, Routes, Answers, AnswersWords};
 
 use crate::element::Element;
 use crate::fault::Fault;
@@ -15,6 +15,17 @@ fn eval(alloc: Global, table: &str, point: &str) -> Result<Vec<u8>, Fault>
 {
     let (table, point) = table_and_point(alloc, table, point)?;
     let value = table.eval_base(alloc, &point)?;
+    let line = line(alloc, &[value])?;
+    Ok(line)
+}
+
+/// The sum of a table's values, each times the weights at a point of the vertices that it is the
+/// next of.
+fn next(alloc: Global, table: &str, point: &str) -> Result<Vec<u8>, Fault>
+    ensures { Answers (Next table.now point.now) result }
+{
+    let (table, point) = table_and_point(alloc, table, point)?;
+    let value = table.eval_next_base(alloc, &point)?;
     let line = line(alloc, &[value])?;
     Ok(line)
 }
@@ -87,6 +98,7 @@ pub fn answer(alloc: Global, words: &[String]) -> Result<Vec<u8>, Fault>
         },
         [name, table, operand] => match name.as_str() {
             "eval" => eval(alloc, table.as_str(), operand.as_str()),
+            "next" => next(alloc, table.as_str(), operand.as_str()),
             "fold-first" => fold_first(alloc, table.as_str(), operand.as_str()),
             "fold-last" => fold_last(alloc, table.as_str(), operand.as_str()),
             "routes" => routes(alloc, table.as_str(), operand.as_str()),

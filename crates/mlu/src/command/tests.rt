@@ -37,6 +37,8 @@ fn lines(rt: HostRuntime) -> Result<(), Fail> {
         ("eval 1,2,3,4 2,3", "8\n"),
         ("eval 7 -", "7\n"),
         ("eval 2013265920,1 2", "3\n"),
+        ("next 1,2,3,4 2,3", "3\n"),
+        ("next 7 -", "7\n"),
         ("msb 2,3", "2,2013265918,2013265917,6\n"),
         ("msb -", "1\n"),
         ("lsb 2,3", "2,2013265917,2013265918,6\n"),
@@ -64,6 +66,8 @@ fn faults(rt: HostRuntime) -> Result<(), Fail> {
         ("eval 1,2 2013265921", Fault::Number),
         ("eval - -", Fault::Length),
         ("eval 1,2", Fault::Usage),
+        ("next 1,2,3 2", Fault::Length),
+        ("next 1,2 2,3", Fault::Arity),
         ("eval +1,2 3", Fault::Number),
         ("eval 1,,2 3", Fault::Number),
         ("eval 1,2,3 x", Fault::Number),
@@ -152,6 +156,11 @@ fn report(rt: &HostRuntime, line: &str) -> Result<(), Fail> {
 #[test]
 fn eval_refused(rt: HostRuntime) -> Result<(), Fail> {
     report(&rt, "eval 1,2,3,4 2,3")
+}
+
+#[test]
+fn next_refused(rt: HostRuntime) -> Result<(), Fail> {
+    report(&rt, "next 1,2,3,4 2,3")
 }
 
 #[test]

@@ -1,5 +1,5 @@
 use Rattle.std.proofs.Common.{◌≡◌, ◌≤◌, ℕ, List, [], ◌∷◌, length, map, get_or, string_bytes, sym, ap, ◌∙◌, arith, inl}
-use Rattle.mlu.specs.Commands.{Eval, Msb, Lsb, FoldFirst, FoldLast, Routes}
+use Rattle.mlu.specs.Commands.{Eval, Next, Msb, Lsb, FoldFirst, FoldLast, Routes}
 use Rattle.mlu.proofs.command.answer.Goals as goal
 
 two : {X : Type 0} (xs : List X) (a b : X) → 2 ≤ length xs → length xs ≤ 2 → a ≡ get_or xs 0 a → b ≡ get_or xs 1 b → xs ≡ a ∷ b ∷ []
@@ -48,6 +48,15 @@ returns-in-eval c =
       Eval (string_bytes c.table-item.result) (string_bytes c.operand-item.result),
       named-three string_bytes c.args.words.now c.name-item-then-words-lt4.result c.table-item.result _ _ c.as_str-in-len3.ensures.value c.in-eval.is c.operand-item.result words,
       rw (c.as_str-in-eval.ensures.value, c.as_str-in-eval-2.ensures.value) at c.eval.ensures,
+    )
+
+pub returns-in-next : goal.returns-in-next
+returns-in-next c =
+    let words = three c.args.words.now c.name-item-then-words-lt4.result c.table-item.result c.operand-item.result (omega arith) (omega arith) c.name-item-then-words-lt4.is c.table-item.is c.operand-item.is in
+    inl (
+      Next (string_bytes c.table-item.result) (string_bytes c.operand-item.result),
+      named-three string_bytes c.args.words.now c.name-item-then-words-lt4.result c.table-item.result _ _ c.as_str-in-len3.ensures.value c.in-next.is c.operand-item.result words,
+      rw (c.as_str-in-next.ensures.value, c.as_str-in-next-2.ensures.value) at c.next.ensures,
     )
 
 pub returns-in-text : goal.returns-in-text
