@@ -5,36 +5,51 @@
 set -euo pipefail
 cd "$(dirname "$0")"
 
-log=$(mktemp)
-names=$(mktemp)
-trap 'rm -f "$log" "$names"' EXIT
+places=$(nproc)
+room=$(mktemp -d)
+trap 'rm -rf "$room"' EXIT
 
-# Runs the tests of crate $1 with allocation 1, 2, .. of each test failing. Their lines say which calls
-# are then refused and which are served; each must be refused at some allocation, and served in the end.
+# Runs the tests of crate $1 with allocation $2 of each test failing.
+refuse() {
+  if (cd "crates/$1" && rt try --test --fail-alloc "$2") >"$room/$2.log" 2>&1; then
+    touch "$room/$2.passed"
+  fi
+}
+
+# Runs the tests of crate $1 with allocation 1, 2, .. of each test failing, as many at once as there
+# are processors. Their lines say which calls are then refused and which are served; each must be
+# refused at some allocation, and served in the end.
 refusals() {
-  local crate=$1 allocation served
-  : >"$names"
-  for allocation in {1..32}; do
-    if ! (cd "crates/$crate" && rt try --test --fail-alloc "$allocation") >"$log" 2>&1; then
-      cat "$log"
-      echo "$crate: a test failed with allocation $allocation refused"
-      exit 1
-    fi
-    if grep -qE '^ +refused ' "$log"; then
-      grep -oE '^ +refused .*' "$log" | sed 's/^ *refused //' >>"$names"
-    elif [ -s "$names" ]; then
-      break
-    fi
+  local crate=$1 first allocation served=
+  rm -f "$room"/*
+  : >"$room/refused"
+  for ((first = 1; first <= 32 && !${#served}; first += places)); do
+    for ((allocation = first; allocation < first + places; allocation++)); do
+      refuse "$crate" "$allocation" &
+    done
+    wait
+    for ((allocation = first; allocation < first + places; allocation++)); do
+      if [ ! -e "$room/$allocation.passed" ]; then
+        cat "$room/$allocation.log"
+        echo "$crate: a test failed with allocation $allocation refused"
+        exit 1
+      fi
+      if grep -oE '^ +refused .*' "$room/$allocation.log" >"$room/names"; then
+        sed 's/^ *refused //' "$room/names" >>"$room/refused"
+      elif [ -s "$room/refused" ]; then
+        served=$(grep -oE '^ +served .*' "$room/$allocation.log" | sed 's/^ *served //' | sort)
+        break
+      fi
+    done
   done
 
-  served=$(grep -oE '^ +served .*' "$log" | sed 's/^ *served //' | sort)
-  if [ -z "$served" ] || grep -qE '^ +refused ' "$log"; then
+  if [ -z "$served" ]; then
     echo "$crate: some call is refused whichever allocation fails"
     exit 1
   fi
-  if [ "$served" != "$(sort -u "$names")" ]; then
+  if [ "$served" != "$(sort -u "$room/refused")" ]; then
     echo "$crate: each call is refused at least once, but for these:"
-    comm -3 <(echo "$served") <(sort -u "$names")
+    comm -3 <(echo "$served") <(sort -u "$room/refused")
     exit 1
   fi
   echo "$crate: $(echo "$served" | wc -l) calls, each allocation refused in turn"

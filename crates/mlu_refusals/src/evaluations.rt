@@ -1,11 +1,14 @@
 //! Evaluations below the threshold, which take no memory, and from it on.
 ghost use Rattle.std.specs.Prelude.{◌≡◌, ◌^◌, length, IfOk};
 
-use crate::outcome::{Element, element, outcome};
+use crate::outcome::{Element, element, outcome, point};
+use mlu_lanes::Lanes;
 use mlu_point::point::Point;
-use multilinear_util::poly::Poly;
+use multilinear_util::poly::{Poly, PolyMaybePacked};
 use std::alloc::{AllocError, Global};
 use std::test::Fail;
+
+type Storage = PolyMaybePacked<Element, Element>;
 
 /// The polynomial with the values 0, 1, .., 255, and the point of eight coordinates 2.
 fn below(alloc: Global) -> Result<(Poly<Element>, Point<Element>), AllocError>
@@ -67,6 +70,56 @@ fn eval_ext(rt: HostRuntime) -> Result<(), Fail> {
     )?;
     if let Some(value) = value {
         assert_eq!(rt; value, element(1022));
+    }
+    Ok(())
+}
+
+#[test]
+fn eval_packed(rt: HostRuntime) -> Result<(), Fail> {
+    let Ok(point) = point(rt.alloc()) else {
+        return Ok(())
+    };
+    let lanes = [[1, 2, 3, 4], [5, 6, 7, 8]].map(|row| Lanes::from_array(row.map(element)));
+    let Ok(evals) = Vec::from_slice(rt.alloc(), &lanes) else {
+        return Ok(())
+    };
+    if !evals.len().is_power_of_two() {
+        return Ok(());
+    }
+    let poly = Poly::new(evals);
+    let value = outcome(
+        &rt,
+        "Poly::eval_packed",
+        poly.eval_packed::<Element, Element>(rt.alloc(), &point),
+    )?;
+    if let Some(value) = value {
+        assert_eq!(rt; value, element(20));
+    }
+    Ok(())
+}
+
+/// A scalar storage from the threshold on, where its evaluation takes memory.
+#[test]
+fn scalar_storage(rt: HostRuntime) -> Result<(), Fail> {
+    let Ok((poly, point)) = above(rt.alloc()) else {
+        return Ok(())
+    };
+    let storage = Storage::Scalar(poly);
+    let value = outcome(
+        &rt,
+        "PolyMaybePacked::eval",
+        storage.eval(rt.alloc(), &point),
+    )?;
+    if let Some(value) = value {
+        assert_eq!(rt; value, element(1022));
+    }
+    let copy = outcome(
+        &rt,
+        "PolyMaybePacked::try_clone",
+        storage.try_clone(rt.alloc()),
+    )?;
+    if let Some(copy) = copy {
+        assert_eq!(rt; copy.num_variables(), 9);
     }
     Ok(())
 }

@@ -21,4 +21,6 @@ mod polys;
 #[cfg(test)]
 mod splits;
 #[cfg(test)]
+mod successors;
+#[cfg(test)]
 mod views;
