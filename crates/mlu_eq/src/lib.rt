@@ -19,8 +19,6 @@ pub mod laws;
 mod line;
 mod prefix;
 mod suffix;
-#[cfg(test)]
-mod tests;
 mod weights;
 
 pub use evaluation::{eval_base, eval_ext};

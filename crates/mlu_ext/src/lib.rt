@@ -13,6 +13,3 @@ mod quartic;
 
 pub use product::ProductAlgebra;
 pub use quartic::QuarticExtension;
-
-#[cfg(test)]
-mod tests;

@@ -18,6 +18,3 @@ pub use dot::{compress_hi_dot_packed, compress_hi_dot_packed_eager, lane_total, 
 pub use prefix::{
     add_row, compress_prefix_to_packed_packed, compress_prefix_to_packed_packed_kernel_eager,
 };
-
-#[cfg(test)]
-mod tests;

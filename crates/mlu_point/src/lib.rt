@@ -10,5 +10,3 @@
 
 pub mod eq_batch;
 pub mod point;
-#[cfg(test)]
-mod tests;

@@ -10,8 +10,6 @@
 mod packing;
 pub mod poly;
 pub mod split_eq;
-#[cfg(test)]
-mod tests;
 
 pub use mlu_eq::laws;
 pub use mlu_point::{eq_batch, point};

@@ -68,7 +68,8 @@ impl<'a, F: Copy> PointView<'a, F> {
     pub fn into_slice(self) -> &'a [F]
         ensures { result.now ≡ coordinates self.entry }
     {
-        self.coords
+        let Self { coords } = self;
+        coords
     }
 
     /// A view of the same coordinates.

@@ -1,0 +1,20 @@
+//! Worked values, and a call of each item through its bound.
+mod bounds;
+mod products;
+mod rows;
+
+use mlu_ext::QuarticExtension;
+use mlu_lanes::BabyBear;
+
+type Bear = BabyBear<4>;
+
+type Quartic = QuarticExtension<Bear>;
+
+fn quartic(c0: u32, c1: u32, c2: u32, c3: u32) -> Quartic {
+    QuarticExtension::new(
+        Bear::from_u32(c0),
+        Bear::from_u32(c1),
+        Bear::from_u32(c2),
+        Bear::from_u32(c3),
+    )
+}
