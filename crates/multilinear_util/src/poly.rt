@@ -60,7 +60,7 @@ impl<F: Copy> Poly<F> {
         ensures value { result ≡ length self.now }
         ensures power { IsTrue (is_power_of_two result) }
     {
-        self.evals.len()
+        self.as_slice().len()
     }
 
     /// The number of variables, below the number of bits of a word.
@@ -77,7 +77,7 @@ impl<F: Copy> Poly<F> {
     pub fn as_view(&self) -> PolyView<'_, F>
         ensures { entries result ≡ self.now }
     {
-        PolyView::new(self.evals.as_slice())
+        PolyView::new(self.as_slice())
     }
 
     /// The values.
@@ -113,7 +113,8 @@ impl<F: Copy> Poly<F> {
         ensures value { result.items ≡ self }
         ensures power { IsTrue (is_power_of_two (length result.items)) }
     {
-        self.evals
+        let Self { evals } = self;
+        evals
     }
 
     /// The value of a polynomial without variables, and `None` for others.
@@ -140,7 +141,7 @@ impl<F: Copy> Poly<F> {
     pub fn try_clone(&self, alloc: Global) -> Result<Self, AllocError>
         ensures { IfOk result (λ copy. copy ≡ self.now) }
     {
-        let evals = Vec::from_slice(alloc, self.evals.as_slice())?;
+        let evals = Vec::from_slice(alloc, self.as_slice())?;
         Ok(Poly { evals })
     }
 }
@@ -224,7 +225,7 @@ impl<'a, F> IntoIterator for &'a Poly<F> {
     ghost into_iter_gives = { λ poly r. (iter_rest r ≡ poly.now) × EveryRun (iter_steps {A = F}) (λ p. ItemsMapTo p (λ y. y.now) (iter_rest p.from)) };
 
     fn into_iter(self) -> slice::Iter<'a, F> {
-        self.evals.as_slice().iter()
+        self.evals.iter()
     }
 }
 

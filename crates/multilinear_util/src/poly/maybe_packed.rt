@@ -41,7 +41,7 @@ impl<F: Field, EF: ExtensionField<F>> From<Poly<EF>> for PolyMaybePacked<F, EF> 
     ghost from_gives = { λ poly table. table ≡ Scalar poly };
 
     fn from(poly: Poly<EF>) -> Self {
-        PolyMaybePacked::Scalar(poly)
+        Self::Scalar(poly)
     }
 }
 

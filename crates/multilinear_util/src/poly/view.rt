@@ -41,7 +41,7 @@ impl<'a, F: Copy> PolyView<'a, F> {
         ensures value { result ≡ length (entries self.now) }
         ensures power { IsTrue (is_power_of_two result) }
     {
-        self.evals.len()
+        self.as_slice().len()
     }
 
     /// The number of variables, below the number of bits of a word.
@@ -67,7 +67,7 @@ impl<'a, F: Copy> PolyView<'a, F> {
         ensures value { result.now ≡ entries self.now }
         ensures power { IsTrue (is_power_of_two (length result.now)) }
     {
-        self.evals
+        self.into_slice()
     }
 
     /// The values, for as long as they are borrowed.
@@ -76,7 +76,8 @@ impl<'a, F: Copy> PolyView<'a, F> {
         ensures value { result.now ≡ entries self.entry }
         ensures power { IsTrue (is_power_of_two (length result.now)) }
     {
-        self.evals
+        let Self { evals } = self;
+        evals
     }
 
     /// An iterator over the values.
