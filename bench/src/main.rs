@@ -1,7 +1,11 @@
-//! Element operations of the library beside the same in plain Rust, in one run.
+//! The library beside plain Rust, in one run: element operations, then calls on tables and points.
 //!
 //! Rows are interleaved and the least of many rounds counts: trust the ratios, not the times.
 
+mod plain;
+
+use plain::{Ext, ONE, P, ZERO, add, reduce_once, reduce_product};
+use std::hint::black_box;
 use std::time::Instant;
 
 #[link(name = "mlu_bench", kind = "static")]
@@ -9,25 +13,33 @@ use std::time::Instant;
 unsafe extern "C" {
     fn mlu_bench_scalar(out: *mut u32, out_len: usize, b: *const u32, b_len: usize, operation: u32, rounds: usize) -> bool;
     fn mlu_bench_lanes(out: *mut u32, out_len: usize, b: *const u32, b_len: usize, operation: u32, rounds: usize) -> bool;
-}
-
-const P: u32 = 2013265921;
-
-#[inline(always)]
-fn reduce_once(x: u32) -> u32 {
-    x.min(x.wrapping_sub(P))
-}
-
-/// The library's reduction: a quotient estimate in place of a division.
-#[inline(always)]
-fn reduce_product(x: u64) -> u32 {
-    let quotient = ((x >> 30) % (1 << 32)) * 2290649223 >> 32;
-    reduce_once((x - quotient * u64::from(P)) as u32)
+    fn mlu_bench_call(
+        out: *mut u32,
+        out_len: usize,
+        entries: *const u32,
+        entries_len: usize,
+        point: *const u32,
+        point_len: usize,
+        part: *const u32,
+        part_len: usize,
+        call: u32,
+        rounds: usize,
+    ) -> bool;
+    fn mlu_bench_batch(
+        out: *mut u32,
+        out_len: usize,
+        rows: *const u32,
+        rows_len: usize,
+        scalars: *const u32,
+        scalars_len: usize,
+        variables: usize,
+        rounds: usize,
+    ) -> bool;
 }
 
 /// The same operations as a Rust program would write them, over words.
 #[inline(never)]
-fn plain(out: &mut [u32], b: &[u32], operation: u32, rounds: usize) {
+fn plain_operation(out: &mut [u32], b: &[u32], operation: u32, rounds: usize) {
     for _ in 0..rounds {
         match operation {
             0 => out.iter_mut().zip(b).for_each(|(x, y)| *x = reduce_once(*x + y)),
@@ -44,7 +56,7 @@ fn nanoseconds(elements: usize, rounds: usize, run: impl FnOnce(usize)) -> f64 {
     start.elapsed().as_secs_f64() * 1e9 / (elements * rounds) as f64
 }
 
-fn main() {
+fn operations() {
     const ELEMENTS: usize = 1 << 12;
     const ROUNDS: usize = 200;
     let a: Vec<u32> = (0..ELEMENTS as u64).map(|i| (i * 2654435761 % u64::from(P)) as u32).collect();
@@ -57,7 +69,7 @@ fn main() {
         for _ in 0..30 {
             kept = [a.clone(), a.clone(), a.clone()];
             let [x, y, z] = &mut kept;
-            least[0] = least[0].min(nanoseconds(ELEMENTS, ROUNDS, |n| plain(x, &b, operation, n)));
+            least[0] = least[0].min(nanoseconds(ELEMENTS, ROUNDS, |n| plain_operation(x, &b, operation, n)));
             least[1] = least[1].min(nanoseconds(ELEMENTS, ROUNDS, |n| unsafe {
                 assert!(mlu_bench_scalar(y.as_mut_ptr(), y.len(), b.as_ptr(), b.len(), operation, n));
             }));
@@ -71,5 +83,111 @@ fn main() {
             "| {name} | {:.2} | {:.2} | {:.2} | {:.2} | {:.2} |",
             least[0], least[1], least[2], least[1] / least[0], least[2] / least[0]
         );
+    }
+}
+
+/// Words below the modulus that look random.
+fn words(count: usize, seed: u64) -> Vec<u32> {
+    let mut state = seed;
+    let mut next = || {
+        state = state.wrapping_mul(6364136223846793005).wrapping_add(1442695040888963407);
+        ((state >> 33) % u64::from(P)) as u32
+    };
+    (0..count).map(|_| next()).collect()
+}
+
+fn extensions(words: &[u32]) -> Vec<Ext> {
+    words.chunks_exact(4).map(|c| [c[0], c[1], c[2], c[3]]).collect()
+}
+
+/// The answer of `rounds` calls.
+type Repeated<'a> = Box<dyn Fn(usize) -> Ext + 'a>;
+
+/// Sums what a call answers, as the library's side does.
+fn repeated<'a>(call: impl Fn() -> Ext + 'a) -> Repeated<'a> {
+    Box::new(move |rounds| (0..rounds).fold(ZERO, |sum, _| add(sum, black_box(call()))))
+}
+
+/// The time of a round, without what comes before the first: that of `2 n` rounds less that of `n`.
+fn row(name: &str, variables: usize, sides: [Repeated; 2]) {
+    let rounds = ((1 << 19) >> variables).max(2);
+    let mut least = [[f64::MAX; 2]; 2];
+    for _ in 0..12 {
+        for (side, least) in sides.iter().zip(&mut least) {
+            for (least, rounds) in least.iter_mut().zip([rounds, 2 * rounds]) {
+                let start = Instant::now();
+                black_box(side(black_box(rounds)));
+                *least = least.min(start.elapsed().as_secs_f64());
+            }
+        }
+    }
+    assert_eq!(sides[0](3), sides[1](3), "{name}");
+    let [rust, library] = least.map(|[once, twice]| (twice - once) * 1e9 / (rounds << variables) as f64);
+    println!("| {name} | {variables} | {rust:.2} | {library:.2} | {:.2} |", library / rust);
+}
+
+fn calls(variables: usize) {
+    let entries = words(4 << variables, 1);
+    let point = words(4 * variables, 2);
+    let part = words(4 * (variables / 2), 3);
+    let library = |call: u32| -> Repeated {
+        let (entries, point, part) = (&entries, &point, &part);
+        Box::new(move |rounds| {
+            let mut out = ZERO;
+            let served = unsafe {
+                mlu_bench_call(
+                    out.as_mut_ptr(), out.len(), entries.as_ptr(), entries.len(), point.as_ptr(), point.len(),
+                    part.as_ptr(), part.len(), call, rounds,
+                )
+            };
+            assert!(served);
+            out
+        })
+    };
+    let base = &entries[..1 << variables];
+    let ext = extensions(&entries);
+    let (z, part) = (extensions(&point), extensions(&part));
+    let r = ONE;
+    let halves = z.split_at(z.len() / 2);
+    let (left, right) = (plain::table(halves.0, ONE), plain::table(halves.1, ONE));
+    row("equality table", variables, [repeated(|| plain::table(&z, ONE)[0]), library(0)]);
+    row("`eval_base`", variables, [repeated(|| plain::eval_base(base, &z)), library(1)]);
+    row("`eval_ext`", variables, [repeated(|| plain::eval_ext(&ext, &z)), library(2)]);
+    row("`fix_prefix_var_mut`, and a copy", variables, [repeated(|| plain::fix_prefix(&ext, r)[0]), library(3)]);
+    row("`fix_suffix_var_mut`, and a copy", variables, [repeated(|| plain::fix_suffix(&ext, r)[0]), library(4)]);
+    row("`compress_prefix`, half of the variables", variables, [repeated(|| plain::compress_prefix(base, &part, ONE)[0]), library(5)]);
+    row("`compress_suffix`, half of the variables", variables, [repeated(|| plain::compress_suffix(base, &part, ONE)[0]), library(6)]);
+    row("`SplitEq::eval_base`", variables, [repeated(|| plain::split_value(base, &left, &right)), library(7)]);
+}
+
+fn batches(variables: usize, points: usize) {
+    let rows = words(4 * variables * points, 4);
+    let scalars = words(4 * points, 5);
+    let library = |rounds: usize| {
+        let mut out = ZERO;
+        let served = unsafe {
+            mlu_bench_batch(
+                out.as_mut_ptr(), out.len(), rows.as_ptr(), rows.len(), scalars.as_ptr(), scalars.len(), variables, rounds,
+            )
+        };
+        assert!(served);
+        out
+    };
+    let coordinates = extensions(&rows);
+    let columns: Vec<Vec<Ext>> = (0..points).map(|j| (0..variables).map(|i| coordinates[i * points + j]).collect()).collect();
+    let factors = extensions(&scalars);
+    let rust = repeated(|| plain::batch(&columns, &factors)[0]);
+    row(&format!("`eval_eq_batch`, points: {points}"), variables, [rust, Box::new(library)]);
+}
+
+fn main() {
+    operations();
+    println!("\n| call | variables | plain Rust (ns an entry) | library | ratio |");
+    println!("|---|---|---|---|---|");
+    for variables in [10, 16, 20] {
+        calls(variables);
+        for points in [1, 4, 16] {
+            batches(variables, points);
+        }
     }
 }

@@ -1,12 +1,19 @@
 //! Kernels for the benchmark in `bench/`, as C functions over words.
 //!
-//! Each makes elements of the words, repeats one operation on them place by place, and writes the
-//! words back. Stands on `mlu_lanes`; nothing stands on it.
+//! Each makes elements of the words and repeats one operation on them, place by place, or one call
+//! on tables and points of the extension of degree four. Stands on `multilinear_util`; nothing
+//! stands on it.
 #![tactic(auto)]
 
+mod calls;
+
+use crate::calls::{Case, repeat_batch, repeat_call, repeat_split};
+use mlu_ext::QuarticExtension;
 use mlu_lanes::{BabyBear, Lanes};
 use mlu_ring::each::{multiply_each, sub_each};
 use mlu_ring::{Additive, PackedValue, PrimeCharacteristicRing};
+use multilinear_util::point::Point;
+use multilinear_util::poly::Poly;
 use std::alloc::{AllocError, Global};
 
 /// The width of the lanes.
@@ -15,6 +22,8 @@ const WIDTH: usize = 8;
 type Element = BabyBear<8>;
 
 type Packing = Lanes<Element, 8>;
+
+type Extension = QuarticExtension<Element>;
 
 /// Adds (0), takes away (1) or multiplies by (other numbers) `b`, so many times.
 fn repeat<R: PrimeCharacteristicRing>(out: &mut [R], b: &[R], operation: u32, rounds: usize) {
@@ -102,4 +111,95 @@ pub extern "C" fn mlu_bench_lanes(
     rounds: usize,
 ) -> bool {
     repeat_lanes(alloc, out, b, operation, rounds).is_ok()
+}
+
+fn extensions(alloc: Global, words: &[u32]) -> Result<Vec<Extension>, AllocError> {
+    let count = words.len() / 4;
+    let mut extensions = Extension::zero_vec(alloc, count)?;
+    for i in 0..extensions.len().min(count) {
+        let at = &words[i * 4..i * 4 + 4];
+        let [c0, c1, c2, c3] = [at[0], at[1], at[2], at[3]].map(BabyBear::from_u32);
+        extensions[i] = QuarticExtension::new(c0, c1, c2, c3);
+    }
+    Ok(extensions)
+}
+
+/// Writes the coefficients, and says whether there were any.
+fn write(out: &mut [u32], answer: Result<Extension, AllocError>) -> bool {
+    let Ok(sum) = answer else {
+        return false;
+    };
+    let coefficients = [sum.c0, sum.c1, sum.c2, sum.c3];
+    for (word, coefficient) in out.iter_mut().zip(coefficients.iter()) {
+        *word = coefficient.as_canonical_u32();
+    }
+    true
+}
+
+/// The tables and the points that the words stand for: four words a coefficient of the extension,
+/// and the first words of `entries` for the table over the base.
+fn case(
+    alloc: Global,
+    entries: &[u32],
+    point: &[u32],
+    part: &[u32],
+) -> Result<Case<Element, Extension>, AllocError> {
+    let base = elements(alloc, &entries[..entries.len() / 4])?;
+    let ext = extensions(alloc, entries)?;
+    if !base.len().is_power_of_two() || !ext.len().is_power_of_two() {
+        return Err(AllocError);
+    }
+    let point = Point::new(extensions(alloc, point)?);
+    let scale = Extension::ONE;
+    Ok(Case {
+        base: Poly::new(base),
+        ext: Poly::new(ext),
+        part: Point::new(extensions(alloc, part)?),
+        point,
+        scale,
+    })
+}
+
+/// Repeats the call with this number. Gives false where memory is refused or the sizes differ.
+#[unsafe(no_mangle)]
+pub extern "C" fn mlu_bench_call(
+    alloc: Global,
+    out: &mut [u32],
+    entries: &[u32],
+    point: &[u32],
+    part: &[u32],
+    call: u32,
+    rounds: usize,
+) -> bool {
+    let Ok(case) = case(alloc, entries, point, part) else {
+        return false;
+    };
+    let answer = match call {
+        7 => repeat_split(alloc, &case, rounds),
+        _ => repeat_call(alloc, &case, call, rounds),
+    };
+    write(out, answer)
+}
+
+/// Repeats a batch of tables, of points in the columns of `rows`.
+#[unsafe(no_mangle)]
+pub extern "C" fn mlu_bench_batch(
+    alloc: Global,
+    out: &mut [u32],
+    rows: &[u32],
+    scalars: &[u32],
+    variables: usize,
+    rounds: usize,
+) -> bool {
+    let (Ok(rows), Ok(scalars)) = (extensions(alloc, rows), extensions(alloc, scalars)) else {
+        return false;
+    };
+    let answer = repeat_batch::<Element, _>(
+        alloc,
+        rows.as_slice(),
+        scalars.as_slice(),
+        variables,
+        rounds,
+    );
+    write(out, answer)
 }
