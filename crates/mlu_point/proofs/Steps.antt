@@ -1,10 +1,9 @@
 -- The parts of a step to the next row, from the last coordinate on.
-use Rattle.std.proofs.Common.{◌≡◌, ℕ, suc, ◌+◌, ◌-◌, ◌^◌, ◌<◌, ◌≤◌, List, [], ◌∷◌, length, get_or, drop, refl, sym, ap, ◌∙◌, arith}
+use Rattle.std.proofs.Common.{◌≡◌, ℕ, ◌+◌, ◌-◌, ◌<◌, ◌≤◌, List, [], ◌∷◌, length, get_or, drop, sym, ap, ◌∙◌, arith}
 use Rattle.mlu_ring.specs.Ring.{Ring, RingLaws}
-use Rattle.mlu_ring.specs.Sums.{sum_below}
 use Rattle.mlu_ring.specs.Tables.{weight, weights, value}
 use Rattle.mlu_ring.specs.Successor.{next}
-use Rattle.mlu_ring.proofs.Rings.{sum_product, product_one, product_left_comm, product_negation, negation_product, sum_left_comm, sum_cancel, sum_negation, sum_zero}
+use Rattle.mlu_ring.proofs.Rings.{sum_product, product_one, product_negation, negation_product, sum_left_comm, sum_cancel, sum_negation}
 use Rattle.mlu_ring.proofs.SumsBelow.{sum_below-zero, product_below-zero, product_below-suc}
 use Rattle.mlu_ring.proofs.Successor.{done-first, last-first, last-last, value-next}
 use Rattle.mlu_point.specs.Steps.{carried, stepped, stayed}

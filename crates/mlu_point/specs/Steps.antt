@@ -1,5 +1,5 @@
 -- A step from a row to its successor, at a point for each of the two rows.
-use Rattle.std.specs.Prelude.{ℕ, ◌+◌, ◌-◌, ◌^◌, List, length, slice_index_or}
+use Rattle.std.specs.Prelude.{◌+◌, ◌-◌, ◌^◌, List, length, slice_index_or}
 use Rattle.mlu_ring.specs.Ring.{Ring}
 use Rattle.mlu_ring.specs.Sums.{sum_below, product_below}
 use Rattle.mlu_ring.specs.Tables.{weight}

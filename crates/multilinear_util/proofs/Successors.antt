@@ -1,9 +1,9 @@
 -- Steps to the next row: the last entry of a split table, and tables moved by one place.
-use Rattle.std.proofs.Common.{◌≡◌, ℕ, zero, suc, ◌+◌, ◌-◌, ◌*◌, ◌<◌, List, [], ◌∷◌, ◌++◌, length, map, get_or, take, drop, set, replicate, refl, sym, ap, ◌∙◌, arith}
+use Rattle.std.proofs.Common.{◌≡◌, ℕ, ◌+◌, ◌-◌, ◌*◌, ◌<◌, List, [], ◌∷◌, ◌++◌, length, map, get_or, take, set, sym, ap, ◌∙◌, arith}
 use Rattle.std.specs.List.{slice_rotate_right}
 use Rattle.std.proofs.lemmas.List.{get_or-map, get_or_past, get_or_default, drop_more, drop_all}
 use Rattle.mlu_ring.specs.Ring.{Ring, RingLaws}
-use Rattle.mlu_ring.specs.Tables.{front, pair, weights}
+use Rattle.mlu_ring.specs.Tables.{pair, weights}
 use Rattle.mlu_ring.specs.Successor.{next, shifted}
 use Rattle.mlu_ring.proofs.Rings.{product_zero}
 use Rattle.mlu_ring.proofs.Shifted.{length-moved_up, next-is, pair-next}

@@ -1,4 +1,4 @@
-use Rattle.std.proofs.Common.{◌≡◌, ◌-◌, ◌∙◌, set, length, refl, ap}
+use Rattle.std.proofs.Common.{◌-◌, ◌∙◌, set, length, refl, ap}
 use Rattle.multilinear_util.proofs.Successors.{next-turned}
 use Rattle.multilinear_util.proofs.poly.tables.move_to_next.Goals as goal
 

@@ -1,4 +1,4 @@
-use Rattle.std.proofs.Common.{◌≡◌, ◌-◌, ◌<◌, ◌≤◌, ◌∙◌, map, length, ap, sym, subst, refl, arith, rules}
+use Rattle.std.proofs.Common.{◌<◌, ◌∙◌, map, length, ap, subst}
 use Rattle.mlu_ring.specs.Tables.{pair}
 use Rattle.mlu_ring.specs.Successor.{next, shifted}
 use Rattle.mlu_eq.specs.Weights.{weights_of}

@@ -1,4 +1,4 @@
-use Rattle.std.proofs.Common.{◌≡◌, ◌-◌, ◌<◌, ◌∙◌, length, get_or, ap, subst, sym, rules}
+use Rattle.std.proofs.Common.{◌-◌, ◌<◌, ◌∙◌, length, get_or, ap, subst, rules}
 use Rattle.std.proofs.lemmas.List.{get_or_default}
 use Rattle.mlu_eq.specs.Weights.{weights_of}
 use Rattle.mlu_eq.proofs.Lengths.{positive_of_test}

@@ -1,4 +1,4 @@
-use Rattle.std.proofs.Common.{◌∙◌, ap, arith}
+use Rattle.std.proofs.Common.{◌∙◌, ap}
 use Rattle.mlu_point.specs.Steps.{carried, stepped, stayed}
 use Rattle.mlu_point.proofs.Steps.{carried-none, stepped-none, stayed-none, carried-more, stepped-more, stayed-more, tails-all, steps-value}
 use Rattle.mlu_point.proofs.point.owned.Point.eval_next.Goals as goal
