@@ -1,7 +1,7 @@
 -- D copies of a ring, with componentwise operations.
 use lib.Pointwise.{pointwise}
 use Rattle.std.specs.Prelude.{◌≡◌, ◌↔◌, IsTrue, Bool, ℕ, List}
-use Rattle.std.proofs.Common.{zero, ap, refl}
+use Rattle.std.proofs.Common.{ap, refl}
 use Rattle.mlu_ring.specs.Ring.{Ring, RingLaws, IsRingMap}
 use Rattle.mlu_ring.specs.Lanes.{IsLists}
 use Rattle.mlu_lanes.specs.LaneRing.{values_of, same_values, splat, lane_ring, lane_laws, eq_lanes, splat_is_ring_map}

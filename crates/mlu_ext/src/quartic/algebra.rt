@@ -128,6 +128,20 @@ impl<R: Additive> RingMapFrom<R> for QuarticExtension<R> {
     ghost keeps_ring = { constant_is_ring_map R.ring R.Additive.laws };
 }
 
+/// An element stands for itself.
+impl<R: Additive> MapFrom<QuarticExtension<R>> for QuarticExtension<R> {
+    ghost image = { λ x. x };
+
+    #[inline]
+    fn map(x: Self) -> Self {
+        x
+    }
+}
+
+impl<R: Additive> RingMapFrom<QuarticExtension<R>> for QuarticExtension<R> {
+    ghost keeps_ring = { identity_is_ring_map Self.ring };
+}
+
 /// Draws the coefficients in order.
 impl<R: Sample> Sample for QuarticExtension<R> {
     fn sample<G: RngExt>(rng: &mut G) -> Self {

@@ -339,6 +339,9 @@ fn conversions(rt: HostRuntime) {
     let five = Bear::from_u32(5);
     assert_eq!(rt; mapped::<Bear, Quartic>(five), quartic(5, 0, 0, 0));
     assert_eq!(rt; ring_mapped::<Bear, Quartic>(five), quartic(5, 0, 0, 0));
+    let element = quartic(1, 2, 3, 4);
+    assert_eq!(rt; mapped::<Quartic, Quartic>(element), element);
+    assert_eq!(rt; ring_mapped::<Quartic, Quartic>(element), element);
     let five = Half::from_u32(5);
     assert_eq!(rt; mapped::<Half, Pair>(five), pair(5, 5));
     assert_eq!(rt; ring_mapped::<Half, Pair>(five), pair(5, 5));
