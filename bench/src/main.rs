@@ -1,6 +1,9 @@
 //! The library beside plain Rust, in one run: element operations, then calls on tables and points.
 //!
 //! Rows are interleaved and the least of many rounds counts: trust the ratios, not the times.
+//!
+//! With words, only the calls whose name has each word, or whose number of variables it is:
+//! `cargo run --release -- eval_base 16`.
 
 mod plain;
 
@@ -108,8 +111,16 @@ fn repeated<'a>(call: impl Fn() -> Ext + 'a) -> Repeated<'a> {
     Box::new(move |rounds| (0..rounds).fold(ZERO, |sum, _| add(sum, black_box(call()))))
 }
 
+/// Whether the row is asked for: each word of the command line stands in its name or is its size.
+fn is_wanted(name: &str, variables: usize) -> bool {
+    std::env::args().skip(1).all(|word| name.contains(&word) || word == variables.to_string())
+}
+
 /// The time of a round, without what comes before the first: that of `2 n` rounds less that of `n`.
 fn row(name: &str, variables: usize, sides: [Repeated; 2]) {
+    if !is_wanted(name, variables) {
+        return;
+    }
     let rounds = ((1 << 19) >> variables).max(2);
     let mut least = [[f64::MAX; 2]; 2];
     for _ in 0..12 {
@@ -181,7 +192,9 @@ fn batches(variables: usize, points: usize) {
 }
 
 fn main() {
-    operations();
+    if std::env::args().len() == 1 {
+        operations();
+    }
     println!("\n| call | variables | plain Rust (ns an entry) | library | ratio |");
     println!("|---|---|---|---|---|");
     for variables in [10, 16, 20] {
