@@ -1,0 +1,81 @@
+//! Elements as words: read from them, and written as them.
+
+use mlu_ext::QuarticExtension;
+use mlu_lanes::{BabyBear, MODULUS, WrappingU64};
+use mlu_ring::{Additive, Algebra};
+use std::alloc::AllocError;
+use std::fmt::Write;
+
+/// Elements that have words.
+pub trait Element: Additive {
+    /// The element that the word stands for.
+    fn read(word: &str) -> Option<Self>;
+
+    /// Appends its word.
+    fn write(self, text: &mut String) -> Result<(), AllocError>;
+}
+
+impl<const W: usize> Element for BabyBear<W> {
+    fn read(word: &str) -> Option<Self> {
+        let value = u32::try_from(decimal(word)?).ok()?;
+        if value < MODULUS {
+            Some(BabyBear::from_u32(value))
+        } else {
+            None
+        }
+    }
+
+    fn write(self, text: &mut String) -> Result<(), AllocError> {
+        let value = self.as_canonical_u32();
+        write!(text, "{value}")
+    }
+}
+
+impl<const W: usize> Element for WrappingU64<W> {
+    fn read(word: &str) -> Option<Self> {
+        let value = decimal(word)?;
+        Some(WrappingU64::new(value))
+    }
+
+    fn write(self, text: &mut String) -> Result<(), AllocError> {
+        let value = self.value();
+        write!(text, "{value}")
+    }
+}
+
+/// Four coefficients between colons; a lone one stands for the constant.
+impl<const W: usize> Element for QuarticExtension<BabyBear<W>> {
+    fn read(word: &str) -> Option<Self> {
+        let Some((c0, rest)) = word.split_once(':') else {
+            let constant: BabyBear<W> = BabyBear::read(word)?;
+            return Some(QuarticExtension::from_base(constant));
+        };
+        let (c1, rest) = rest.split_once(':')?;
+        let (c2, c3) = rest.split_once(':')?;
+        Some(QuarticExtension::new(
+            BabyBear::read(c0)?,
+            BabyBear::read(c1)?,
+            BabyBear::read(c2)?,
+            BabyBear::read(c3)?,
+        ))
+    }
+
+    fn write(self, text: &mut String) -> Result<(), AllocError> {
+        self.c0.write(text)?;
+        text.push(':')?;
+        self.c1.write(text)?;
+        text.push(':')?;
+        self.c2.write(text)?;
+        text.push(':')?;
+        self.c3.write(text)
+    }
+}
+
+/// The number of which the word is the decimal, without a sign or leading zeros.
+pub fn decimal(word: &str) -> Option<u64> {
+    // `parse` takes a plus sign and leading zeros too.
+    if word.starts_with('+') || (word.len() > 1 && word.starts_with('0')) {
+        return None;
+    }
+    word.parse::<u64>().ok()
+}

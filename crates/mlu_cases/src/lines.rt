@@ -1,0 +1,29 @@
+//! Lists of elements as the words of answers.
+
+use crate::element::Element;
+use std::alloc::{AllocError, Global};
+
+/// The word of the empty list.
+pub const NONE: &str = "-";
+
+/// The word of a list: its elements, joined by commas.
+pub fn list_word<T: Element>(alloc: Global, list: &[T]) -> Result<String, AllocError> {
+    let mut text = String::new(alloc);
+    let Some((first, rest)) = list.split_first() else {
+        text.push_str(NONE)?;
+        return Ok(text);
+    };
+    first.write(&mut text)?;
+    for x in rest {
+        text.push(',')?;
+        x.write(&mut text)?;
+    }
+    Ok(text)
+}
+
+/// The word of an element.
+pub fn word<T: Element>(alloc: Global, element: T) -> Result<String, AllocError> {
+    let mut text = String::new(alloc);
+    element.write(&mut text)?;
+    Ok(text)
+}
