@@ -3,12 +3,12 @@
 # allocation of each refused, until none is refused any more; then the merge gate, which proves every
 # crate from nothing, tries edits that must be refused, and runs the tests and the program.
 #
-# All edits take longer than all proofs. So the edits of every third crate are tried, one more commit
-# taking the next ones; with --all-edits, those of every crate.
+# All edits take longer than all proofs. So the edits of every fifth crate are tried, counted from the
+# one with the most, one more commit taking the next ones; with --all-edits, those of every crate.
 set -euo pipefail
 cd "$(dirname "$0")"
 
-turns=3
+turns=5
 places=$(nproc)
 room=$(mktemp -d)
 trap 'rm -rf "$room"' EXIT
@@ -59,6 +59,14 @@ refusals() {
   echo "$crate: $(echo "$served" | wc -l) calls, each allocation refused in turn"
 }
 
+# The folders of edits, those with the most first.
+by_edits() {
+  local folder
+  for folder in crates/*/must-fail; do
+    echo "$(ls "$folder" | wc -l) $folder"
+  done | sort -k 1,1nr -k 2 | cut -d ' ' -f 2
+}
+
 # The gate: on the repository with $1 = --all-edits, else on a copy without the edits of the crates
 # whose turn it is not.
 gate() {
@@ -67,7 +75,7 @@ gate() {
     mkdir "$room/gate"
     tar -c --exclude=./.git --exclude=out --exclude=target . | tar -x -C "$room/gate"
     turn=$(($(git rev-list --count HEAD 2>/dev/null || echo 1) % turns))
-    tried=$(ls -d crates/*/must-fail | awk -v turn="$turn" -v turns="$turns" 'NR % turns == turn')
+    tried=$(by_edits | awk -v turn="$turn" -v turns="$turns" 'NR % turns == turn')
     cd "$room/gate"
     for crate in crates/*/must-fail; do
       grep -qxF "$crate" <<<"$tried" || rm -r "$crate"
