@@ -1,2 +1,3 @@
+pub mod Decimals
 pub mod Images
 pub mod Powers

@@ -1,5 +1,6 @@
 //! Elements as words: read from them, and written as them.
 
+use crate::decimals::decimal;
 use mlu_ext::QuarticExtension;
 use mlu_lanes::{BabyBear, MODULUS, WrappingU64};
 use mlu_ring::{Additive, Algebra};
@@ -69,13 +70,4 @@ impl<const W: usize> Element for QuarticExtension<BabyBear<W>> {
         text.push(':')?;
         self.c3.write(text)
     }
-}
-
-/// The number of which the word is the decimal, without a sign or leading zeros.
-pub fn decimal(word: &str) -> Option<u64> {
-    // `parse` takes a plus sign and leading zeros too.
-    if word.starts_with('+') || (word.len() > 1 && word.starts_with('0')) {
-        return None;
-    }
-    word.parse::<u64>().ok()
 }

@@ -1,5 +1,9 @@
 //! Why a case has no answer.
 
+ghost use Rattle.std.specs.Prelude.{◌≡◌};
+ghost use Rattle.mlu_cases.specs.Faults.{reason_text};
+ghost use Rattle.mlu_cases.specs.declared.fault.Fault.TheVariants.{Unknown, Memory};
+
 use std::alloc::AllocError;
 
 /// Why a line is no case that can be answered.
@@ -35,7 +39,9 @@ pub enum Reason {
 
 impl Reason {
     /// The reason in words.
-    pub fn text(self) -> &'static str {
+    pub fn text(self) -> &'static str
+        ensures { result.now ≡ reason_text self }
+    {
         match self {
             Reason::Text => "the line is no UTF-8 text",
             Reason::Equals => "there is no `=` before an answer",
@@ -64,12 +70,16 @@ pub enum Fault {
 }
 
 impl From<Reason> for Fault {
+    ghost from_gives = { λ reason fault. fault ≡ Unknown reason };
+
     fn from(reason: Reason) -> Fault {
         Fault::Unknown(reason)
     }
 }
 
 impl From<AllocError> for Fault {
+    ghost from_gives = { λ _ fault. fault ≡ Memory };
+
     fn from(_: AllocError) -> Fault {
         Fault::Memory
     }

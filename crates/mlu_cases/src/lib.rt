@@ -6,9 +6,11 @@
 //! Stands on every library crate; `mlu_rings` names the rings and the widths.
 #![tactic(auto)]
 
+mod decimals;
 pub mod element;
 pub mod fault;
 mod lines;
+mod operands;
 pub mod ops;
 mod sizes;
 pub mod words;

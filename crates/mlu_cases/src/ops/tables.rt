@@ -3,8 +3,9 @@
 use crate::element::Element;
 use crate::fault::{Fault, Reason};
 use crate::lines::list_word;
+use crate::operands::MOST_VARIABLES;
 use crate::sizes::pack;
-use crate::words::{MOST_VARIABLES, Words};
+use crate::words::Words;
 use mlu_ring::{ExtensionField, Field, PackedValue, PrimeCharacteristicRing};
 use multilinear_util::poly::Poly;
 
