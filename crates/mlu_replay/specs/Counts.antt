@@ -1,7 +1,49 @@
--- What the program says of all cases.
-use Rattle.std.specs.Prelude.{ℕ, List, ◌++◌, codes, decimal}
+-- How many cases there are, and what the program says of all of them.
+use Rattle.std.specs.Prelude.{◌≡◌, ◌≢◌, ℕ, ◌+◌, List, [], ◌∷◌, ◌++◌, ◌==◌, if◌then◌else◌, codes, decimal}
+use Rattle.mlu_cases.specs.declared.fault.Reason.{Reason}
+use Rattle.mlu_replay.specs.declared.stop.Stop.{Stop}
+use Rattle.mlu_replay.specs.declared.stop.Stop.TheVariants.{Read, Memory, Write}
+use Rattle.std.specs.Io.KnownBytes.{Appends}
+use Rattle.std.specs.declared.option.Option.{Option}
+
+-- the number of lines: one for each line feed, and one for bytes after the last of them
+abbrev pub line_count : List ℕ → ℕ
+line_count [] = 0
+line_count (byte ∷ []) = 1
+line_count (byte ∷ next ∷ rest) = (if byte == 10 then 1 else 0) + line_count (next ∷ rest)
+
+-- known bytes stay at the front
+abbrev pub Grows : Option (List ℕ) → Option (List ℕ) → Type 0
+Grows old new = (bytes : List ℕ) × Appends old new bytes
+
+-- known bytes grow by some that end so
+abbrev pub GrowsTo : Option (List ℕ) → Option (List ℕ) → List ℕ → Type 0
+GrowsTo old new end = (bytes : List ℕ) × Appends old new (bytes ++ end)
+
+-- the line for a case that differs
+abbrev pub differ_line : ℕ → List ℕ → List ℕ → List ℕ → List ℕ
+differ_line number op given answer =
+    codes "line " ++ (decimal number ++ (codes ": " ++ (op ++ (codes " differs: given " ++ (given ++ (codes ", answered " ++ (answer ++ codes "\n")))))))
+
+-- the line for one that is no case
+abbrev pub unknown_line : ℕ → List ℕ → List ℕ
+unknown_line number reason = codes "line " ++ (decimal number ++ (codes ": unknown: " ++ (reason ++ codes "\n")))
+
+-- some answer other than the given one, which ends the line
+abbrev pub IsGiven : List ℕ → (List ℕ → List ℕ → List ℕ → Type 0) → Type 0
+IsGiven line P = (asked given answer : List ℕ) × (line ≡ asked ++ (codes " = " ++ given)) × (given ≢ answer) × P asked given answer
+
+-- some reason
+abbrev pub IsUnknown : (Reason → Type 0) → Type 0
+IsUnknown P = (reason : Reason) × P reason
 
 -- the last line
 abbrev pub count_line : ℕ → ℕ → ℕ → List ℕ
 count_line compared differ unknown =
     decimal compared ++ (codes " compared, " ++ (decimal differ ++ (codes " differ, " ++ (decimal unknown ++ codes " unknown\n"))))
+
+-- the status that the program ends with where it stops before the end
+abbrev pub stop_status : Stop → ℕ
+stop_status Read = 2
+stop_status Memory = 3
+stop_status Write = 4

@@ -1,13 +1,17 @@
 //! Cases answered line by line, and their count.
-ghost use Rattle.std.specs.Prelude.{◌≡◌, ◌+◌, ◌<◌, ◌≤◌, ◌^◌, ◌↔◌, IfOk, OnOk};
-ghost use Rattle.std.specs.Io.KnownBytes.{Appends};
-ghost use Rattle.mlu_replay.specs.Counts.{count_line};
+ghost use Rattle.std.specs.Prelude.{◌≡◌, ◌≢◌, ◌+◌, ◌<◌, ◌≤◌, ◌^◌, ◌↔◌, [], ◌++◌, codes, true, false, IfOk, IfErr, IfSome, OnOk};
+ghost use Rattle.std.specs.Io.KnownBytes.{Appends, IsAtEnd};
+ghost use Rattle.std.specs.IoError.{error_kind};
+ghost use Rattle.std.specs.Io.BufRead.{DropsThrough, first_piece};
+ghost use Rattle.mlu_replay.specs.Counts.{Grows, GrowsTo, IsGiven, IsUnknown, count_line, differ_line, unknown_line, line_count};
+ghost use Rattle.mlu_cases.specs.Faults.{reason_text};
+ghost use Rattle.mlu_cases.specs.Words.{first_word};
 
 use crate::stop::Stop;
 use mlu_cases::fault::{Fault, Reason};
 use mlu_rings::answer;
 use std::alloc::Global;
-use std::io::{BufRead, ErrorKind, Write};
+use std::io::{self, BufRead, ErrorKind, Write};
 use std::str;
 
 /// How many cases were compared, how many of them differ, and how many lines were no cases.
@@ -35,42 +39,54 @@ impl Tally {
 /// count.
 ///
 /// # Errors
-/// Where the input can't be read, a write fails, or memory is refused.
+/// Where the input can't be read, or has 2^64 lines; where a write fails, or memory is refused.
 pub fn replay<R: BufRead, W: Write>(
     alloc: Global,
     input: &mut R,
     output: &mut W,
 ) -> Result<Tally, Stop>
-    ensures { IfOk result (λ tally. tally.differ ≤ tally.compared) }
+    ensures lines { IfOk result (λ tally. IfSome (R.remaining input.old) (λ bytes. tally.compared + tally.unknown ≡ line_count bytes)) }
+    ensures within { IfOk result (λ tally. tally.differ ≤ tally.compared) }
+    ensures last { IfOk result (λ tally. GrowsTo (W.contents output.old) (W.contents output.new) (count_line tally.compared tally.differ tally.unknown)) }
 {
     let mut tally = Tally::default();
     let mut line = Vec::new(alloc);
     for lines in 0..u64::MAX {
-        line.clear();
         if !next_line(input, &mut line)? {
-            break;
+            write_count(tally, output)?;
+            return Ok(tally);
         }
         replay_line(alloc, lines + 1, &line, &mut tally, output)?;
     }
-    write_count(tally, output)?;
-    Ok(tally)
+    Err(Stop::Read)
 }
 
-/// Reads a line without its line feed. Answers false at the end of the input.
-fn next_line<R: BufRead>(input: &mut R, line: &mut Vec<u8>) -> Result<bool, Stop> {
-    let count = match input.read_until(b'\n', line) {
-        Ok(count) => count,
-        Err(error) => {
-            return Err(match error.kind() {
-                ErrorKind::OutOfMemory => Stop::Memory,
-                _ => Stop::Read,
-            });
-        }
-    };
+/// Reads a line in place of what stands in `line`, without its line feed. Answers false at the end
+/// of the input.
+fn next_line<R: BufRead>(input: &mut R, line: &mut Vec<u8>) -> Result<bool, Stop>
+    ensures line { OnOk result (IfSome (R.remaining input.old) (λ bytes. line.new.items ≡ first_piece 10 bytes)) }
+    ensures rest { OnOk result (DropsThrough (R.remaining input.old) (R.remaining input.new) 10) }
+    ensures more { IfOk result (λ more. more ≡ true → IfSome (R.remaining input.old) (λ bytes. bytes ≢ [])) }
+    ensures end { IfOk result (λ more. more ≡ false → IsAtEnd (R.remaining input.old)) }
+    ensures stop { IfErr result (λ stop. stop ≢ Stop.Write) }
+{
+    line.clear();
+    let count = input.read_until(b'\n', line).map_err(unread)?;
     if line.last() == Some(&b'\n') {
         line.pop();
     }
     Ok(count > 0)
+}
+
+/// Why the program stops where the input can't be read.
+fn unread(error: io::Error) -> Stop
+    ensures memory { (result ≡ Stop.Memory) ↔ (error_kind error ≡ ErrorKind.OutOfMemory) }
+    ensures never { result ≢ Stop.Write }
+{
+    match error.kind() {
+        ErrorKind::OutOfMemory => Stop::Memory,
+        _ => Stop::Read,
+    }
 }
 
 /// What a line asks, and the answer that it gives.
@@ -81,14 +97,18 @@ struct Case<'a> {
 }
 
 impl<'a> Case<'a> {
-    fn read(line: &'a [u8]) -> Result<Self, Reason> {
+    fn read(line: &'a [u8]) -> Result<Self, Reason>
+        ensures { IfOk result (λ case. line.now ≡ case.asked.now ++ (codes " = " ++ case.given.now)) }
+    {
         let text = str::from_utf8(line).map_err(|_| Reason::Text)?;
         let (asked, given) = text.split_once(" = ").ok_or(Reason::Equals)?;
         Ok(Case { asked, given })
     }
 
     /// The name of the call.
-    fn op(self) -> &'a str {
+    fn op(self) -> &'a str
+        ensures { result.now ≡ first_word self.entry.asked.now }
+    {
         match self.asked.split_once(' ') {
             Some((op, _)) => op,
             None => self.asked,
@@ -108,32 +128,61 @@ fn replay_line<W: Write>(
     requires fits { tally.old.compared + tally.old.unknown + 1 < 2 ^ 64 }
     ensures one { IfOk result (λ _. tally.new.compared + tally.new.unknown ≡ tally.old.compared + tally.old.unknown + 1) }
     ensures within { IfOk result (λ _. tally.new.differ ≤ tally.new.compared) }
+    ensures same { OnOk result (tally.new.differ ≡ tally.old.differ → tally.new.unknown ≡ tally.old.unknown → Appends (W.contents output.old) (W.contents output.new) []) }
+    ensures differs { OnOk result (tally.new.differ ≢ tally.old.differ → IsGiven line.now (λ asked given answer. Appends (W.contents output.old) (W.contents output.new) (differ_line number (first_word asked) given answer))) }
+    ensures unknown { OnOk result (tally.new.unknown ≢ tally.old.unknown → IsUnknown (λ reason. Appends (W.contents output.old) (W.contents output.new) (unknown_line number (reason_text reason)))) }
+    ensures grows { OnOk result (Grows (W.contents output.old) (W.contents output.new)) }
+    ensures stop { IfErr result (λ stop. stop ≢ Stop.Read) }
 {
     match answered(alloc, line) {
-        Ok((case, answer)) => {
+        Ok((case, text)) => {
+            let answer = text.as_str();
             tally.compared += 1;
-            if case.given == answer.as_str() {
+            if case.given == answer {
                 return Ok(());
             }
             tally.differ += 1;
-            let (op, given) = (case.op(), case.given);
-            writeln!(
-                output,
-                "line {number}: {op} differs: given {given}, answered {answer}"
-            )
-            .map_err(|_| Stop::Write)
+            report_differing(number, case, answer, output)
         }
         Err(Fault::Unknown(reason)) => {
             tally.unknown += 1;
-            let reason = reason.text();
-            writeln!(output, "line {number}: unknown: {reason}").map_err(|_| Stop::Write)
+            report_unknown(number, reason, output)
         }
         Err(Fault::Memory) => Err(Stop::Memory),
     }
 }
 
+/// Writes the line for a case that differs.
+fn report_differing<W: Write>(
+    number: u64,
+    case: Case<'_>,
+    answer: &str,
+    output: &mut W,
+) -> Result<(), Stop>
+    ensures line { OnOk result (Appends (W.contents output.old) (W.contents output.new) (differ_line number (first_word case.entry.asked.now) case.entry.given.now answer.now)) }
+    ensures stop { IfErr result (λ stop. stop ≡ Stop.Write) }
+{
+    let (op, given) = (case.op(), case.given);
+    writeln!(
+        output,
+        "line {number}: {op} differs: given {given}, answered {answer}"
+    )
+    .map_err(|_| Stop::Write)
+}
+
+/// Writes the line for what is no case.
+fn report_unknown<W: Write>(number: u64, reason: Reason, output: &mut W) -> Result<(), Stop>
+    ensures line { OnOk result (Appends (W.contents output.old) (W.contents output.new) (unknown_line number (reason_text reason))) }
+    ensures stop { IfErr result (λ stop. stop ≡ Stop.Write) }
+{
+    let reason = reason.text();
+    writeln!(output, "line {number}: unknown: {reason}").map_err(|_| Stop::Write)
+}
+
 /// The case of a line, and this library's answer.
-fn answered(alloc: Global, line: &[u8]) -> Result<(Case<'_>, String), Fault> {
+fn answered(alloc: Global, line: &[u8]) -> Result<(Case<'_>, String), Fault>
+    ensures { IfOk result (λ both. line.now ≡ both.0.asked.now ++ (codes " = " ++ both.0.given.now)) }
+{
     let case = Case::read(line)?;
     let answer = answer(alloc, case.asked)?;
     Ok((case, answer))
@@ -141,7 +190,8 @@ fn answered(alloc: Global, line: &[u8]) -> Result<(Case<'_>, String), Fault> {
 
 /// Writes the last line, and sees that no line is held back.
 fn write_count<W: Write>(tally: Tally, output: &mut W) -> Result<(), Stop>
-    ensures { OnOk result (Appends (W.contents output.old) (W.contents output.new) (count_line tally.compared tally.differ tally.unknown)) }
+    ensures last { OnOk result (Appends (W.contents output.old) (W.contents output.new) (count_line tally.compared tally.differ tally.unknown)) }
+    ensures stop { IfErr result (λ stop. stop ≡ Stop.Write) }
 {
     let Tally {
         compared,

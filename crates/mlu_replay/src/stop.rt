@@ -1,11 +1,15 @@
 //! Why the program stops before the end of its input.
 
+ghost use Rattle.std.specs.Prelude.{◌≡◌};
+ghost use Rattle.mlu_replay.specs.Counts.{stop_status};
+ghost use Rattle.mlu_replay.specs.declared.stop.Stop.TheVariants.{Memory};
+
 use std::alloc::AllocError;
 
 /// Why the program ends before its input does.
 #[derive(Clone, Copy, Debug, PartialEq, Eq)]
 pub enum Stop {
-    /// The input can't be read.
+    /// The input can't be read, or has more lines than can be counted.
     Read,
     /// Memory was refused.
     Memory,
@@ -15,7 +19,9 @@ pub enum Stop {
 
 impl Stop {
     /// The status that the program ends with.
-    pub fn status(self) -> u8 {
+    pub fn status(self) -> u8
+        ensures { result ≡ stop_status self }
+    {
         match self {
             Stop::Read => 2,
             Stop::Memory => 3,
@@ -25,6 +31,8 @@ impl Stop {
 }
 
 impl From<AllocError> for Stop {
+    ghost from_gives = { λ _ stop. stop ≡ Memory };
+
     fn from(_: AllocError) -> Stop {
         Stop::Memory
     }

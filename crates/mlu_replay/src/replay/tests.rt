@@ -153,7 +153,9 @@ fn statuses(rt: HostRuntime) {
         };
         assert_eq!(rt; tally.status(), status);
     }
-    assert_eq!(rt; Stop::Memory.status(), 3);
+    for (stop, status) in [(Stop::Read, 2), (Stop::Memory, 3), (Stop::Write, 4)] {
+        assert_eq!(rt; stop.status(), status);
+    }
 }
 
 /// A stream that fails after so many calls.

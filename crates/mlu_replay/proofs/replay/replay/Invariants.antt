@@ -1,8 +1,12 @@
 use Rattle.std.proofs.Common.{◌≡◌, ◌+◌, ◌≤◌}
+use Rattle.mlu_replay.specs.Counts.{Grows}
+use Rattle.mlu_replay.proofs.Lines.{HasRead}
 use Rattle.mlu_replay.proofs.replay.replay.Given as goal
 
 abbrev pub invariant-loop-lines : goal.invariant-loop-lines
 invariant-loop-lines g l = record {
   count : l.tally.compared + l.tally.unknown ≡ l.lines;
   within : l.tally.differ ≤ l.tally.compared;
+  read : HasRead (g.R.Read.remaining l.initial.input) (g.R.Read.remaining l.input) l.lines;
+  grows : Grows (g.W.Write.contents l.initial.output) (g.W.Write.contents l.output);
 }
