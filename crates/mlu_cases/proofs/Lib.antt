@@ -1,3 +1,5 @@
-pub mod Decimals
+pub mod Colons
 pub mod Images
+pub mod Lists
+pub mod Parsing
 pub mod Powers

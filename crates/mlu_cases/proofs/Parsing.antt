@@ -5,16 +5,19 @@ use Rattle.std.specs.Fmt.{decimal}
 use Rattle.std.specs.Option.{MatchOption}
 use Rattle.std.specs.Result.{result_ok}
 use Rattle.std.proofs.lemmas.Str.Parse.{IsNumeralModel, numerals_by_value, tells_digits, parse_plain, digit_at}
-use Rattle.std.proofs.lemmas.Fmt.{digits_decimal, digits_value-decimal, decimal_nonempty, first_decimal, decimal-digits_value, decimal_digit}
+use Rattle.std.proofs.lemmas.Fmt.{digits_decimal, digits_value-decimal, decimal_nonempty, first_decimal, decimal-digits_value, decimal_digit, decimal_injective}
 use Rattle.std.proofs.lemmas.Result.{OkIff-at_ok, OkIff-at_err}
 use Rattle.std.proofs.lemmas.Bool.{cases_lt}
+use Rattle.mlu_lanes.specs.BabyBear.{canonical, canonical_below}
+use Rattle.mlu_lanes.specs.declared.baby_bear.BabyBear.{BabyBear}
+use Rattle.mlu_lanes.specs.declared.baby_bear.TheConstants.{MODULUS}
 use Rattle.mlu_cases.specs.Words.{HasPlainStart, IsNoDecimal}
 
 numerals : IsNumeralModel (AllDigits 10) (digits_value 10)
 numerals = numerals_by_value (AllDigits 10) tells_digits
 
 module _ (n : ℕ) (fits : n < 2 ^ 64) (word : List ℕ) (is : decimal n ≡ word) where
-  decimal-all_digits : AllDigits 10 word
+  pub decimal-all_digits : AllDigits 10 word
   decimal-all_digits = rw is at (digits_decimal numerals n fits)
 
   decimal-value : digits_value 10 word ≡ n
@@ -54,3 +57,12 @@ module _ {E : Type 0} (word : List ℕ) (result : Result ℕ E) (parsed : Parses
       by_result : (r : Result ℕ E) → result ≡ r → MatchOption (result_ok r) (IsNoDecimal word) (λ n. decimal n ≡ word)
       by_result (Ok n) is = decimal-parsed n is
       by_result (Err error) is = none-parsed error is
+
+pub decimal-same : (word : List ℕ) (m n : ℕ) → m < 2 ^ 64 → n < 2 ^ 64 → decimal m ≡ word → decimal n ≡ word → m ≡ n
+decimal-same word m n fits fits-n is is-n = decimal_injective m n fits fits-n (is ∙ sym is-n)
+
+-- the decimal of a number that is no least residue
+pub decimal-above : {W : ℕ} (word : List ℕ) (n : ℕ) → n < 2 ^ 64 → decimal n ≡ word → MODULUS ≤ n → (x : BabyBear W) → decimal (canonical x) ≡ word → ⊥
+decimal-above word n fits is above x same =
+    let below : canonical x < MODULUS = canonical_below x in
+    absurd (omega (arith, below, above, decimal-same word n (canonical x) fits (omega (arith, below)) is same))

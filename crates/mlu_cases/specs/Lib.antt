@@ -1,2 +1,3 @@
+pub mod Elements
 pub mod Faults
 pub mod Words

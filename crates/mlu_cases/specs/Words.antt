@@ -27,6 +27,11 @@ abbrev pub Takes : {X : Type 0} → Option (List ℕ) → Option (List ℕ) → 
 Takes None new result P = (new ≡ None) × (result ≡ Err Missing)
 Takes (Some text) new result P = (new ≡ other_words text) × P (first_word text) result
 
+-- the same where there is a word
+abbrev pub IsTaken : Option (List ℕ) → Option (List ℕ) → (List ℕ → Type 0) → Type 0
+IsTaken None new P = ⊥
+IsTaken (Some text) new P = (new ≡ other_words text) × P (first_word text)
+
 -- no plus sign in front, nor a zero before other digits
 abbrev pub HasPlainStart : List ℕ → Type 0
 HasPlainStart word = (slice_index word 0 ≢ 43) × (slice_index word 0 ≡ 48 → length word ≡ 1)

@@ -1,4 +1,8 @@
 //! Elements as words: read from them, and written as them.
+ghost use Rattle.std.specs.Prelude.{◌≡◌, ◌⊎◌, ◌++◌, ℕ, List, decimal, string_bytes, IfOk, MatchOption};
+ghost use Rattle.mlu_lanes.specs.BabyBear.{canonical};
+ghost use Rattle.mlu_lanes.specs.WrappingU64.{number};
+ghost use Rattle.mlu_cases.specs.Elements.{IsFour, IsLone};
 
 use crate::decimals::decimal;
 use mlu_ext::QuarticExtension;
@@ -9,21 +13,27 @@ use std::fmt::Write;
 
 /// Elements that have words.
 pub trait Element: Additive {
+    /// Which words stand for which elements.
+    ghost stands: { List ℕ → Self → Type 0 };
+
     /// The element that the word stands for.
-    fn read(word: &str) -> Option<Self>;
+    fn read(word: &str) -> Option<Self>
+        ensures { MatchOption result ((x : Self) → stands word.now x → ⊥) (λ x. stands word.now x) };
 
     /// Appends its word.
-    fn write(self, text: &mut String) -> Result<(), AllocError>;
+    fn write(self, text: &mut String) -> Result<(), AllocError>
+        ensures { IfOk result (λ _. (word : List ℕ) × stands word self × (string_bytes text.new ≡ string_bytes text.old ++ word)) };
 }
 
 impl<const W: usize> Element for BabyBear<W> {
+    ghost stands = { λ word x. decimal (canonical x) ≡ word };
+
     fn read(word: &str) -> Option<Self> {
-        let value = u32::try_from(decimal(word)?).ok()?;
-        if value < MODULUS {
-            Some(BabyBear::from_u32(value))
-        } else {
-            None
+        let value = decimal(word)?;
+        if value >= u64::from(MODULUS) {
+            return None;
         }
+        Some(BabyBear::from_u32(value as u32))
     }
 
     fn write(self, text: &mut String) -> Result<(), AllocError> {
@@ -33,6 +43,8 @@ impl<const W: usize> Element for BabyBear<W> {
 }
 
 impl<const W: usize> Element for WrappingU64<W> {
+    ghost stands = { λ word x. decimal (number x) ≡ word };
+
     fn read(word: &str) -> Option<Self> {
         let value = decimal(word)?;
         Some(WrappingU64::new(value))
@@ -46,6 +58,8 @@ impl<const W: usize> Element for WrappingU64<W> {
 
 /// Four coefficients between colons; a lone one stands for the constant.
 impl<const W: usize> Element for QuarticExtension<BabyBear<W>> {
+    ghost stands = { λ word x. IsFour word x ⊎ IsLone word x };
+
     fn read(word: &str) -> Option<Self> {
         let Some((c0, rest)) = word.split_once(':') else {
             let constant: BabyBear<W> = BabyBear::read(word)?;

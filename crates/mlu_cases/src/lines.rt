@@ -1,5 +1,8 @@
 //! Lists of elements as the words of answers.
 
+ghost use Rattle.std.specs.Prelude.{string_bytes, IfOk};
+ghost use Rattle.mlu_cases.specs.Elements.{IsListWord};
+
 use crate::element::Element;
 use std::alloc::{AllocError, Global};
 
@@ -7,7 +10,9 @@ use std::alloc::{AllocError, Global};
 pub const NONE: &str = "-";
 
 /// The word of a list: its elements, joined by commas.
-pub fn list_word<T: Element>(alloc: Global, list: &[T]) -> Result<String, AllocError> {
+pub fn list_word<T: Element>(alloc: Global, list: &[T]) -> Result<String, AllocError>
+    ensures { IfOk result (λ text. IsListWord T.stands (string_bytes text) list.now) }
+{
     let mut text = String::new(alloc);
     let Some((first, rest)) = list.split_first() else {
         text.push_str(NONE)?;
@@ -22,7 +27,9 @@ pub fn list_word<T: Element>(alloc: Global, list: &[T]) -> Result<String, AllocE
 }
 
 /// The word of an element.
-pub fn word<T: Element>(alloc: Global, element: T) -> Result<String, AllocError> {
+pub fn word<T: Element>(alloc: Global, element: T) -> Result<String, AllocError>
+    ensures { IfOk result (λ text. T.stands (string_bytes text) element) }
+{
     let mut text = String::new(alloc);
     element.write(&mut text)?;
     Ok(text)

@@ -2,6 +2,8 @@
 //!
 //! What a call asks of the sizes of its operands is tested here or before the call.
 ghost use Rattle.std.specs.Prelude.{◌≡◌, ◌^◌, ◌<◌, ◌≤◌, length, IfOk};
+ghost use Rattle.mlu_cases.specs.Elements.{IsElement, IsListWord, IsScale};
+ghost use Rattle.mlu_cases.specs.Words.{IsTaken, Takes, words_left};
 ghost use Rattle.multilinear_util.specs.Split.{split_entries};
 
 use crate::element::Element;
@@ -19,29 +21,36 @@ pub const MOST_VARIABLES: usize = 24;
 
 impl Words<'_> {
     /// An element.
-    pub fn element<T: Element>(&mut self) -> Result<T, Reason> {
+    pub fn element<T: Element>(&mut self) -> Result<T, Reason>
+        ensures { Takes (words_left self.old) (words_left self.new) result (λ word taken. IsElement T.stands word taken) }
+    {
         let word = self.word()?;
         T::read(word).ok_or(Reason::Element)
     }
 
     /// A scale, if there is one.
-    pub fn scale<T: Element>(&mut self) -> Result<Option<T>, Reason> {
+    pub fn scale<T: Element>(&mut self) -> Result<Option<T>, Reason>
+        ensures { Takes (words_left self.old) (words_left self.new) result (λ word taken. IsScale T.stands word taken) }
+    {
         let word = self.word()?;
         if word == "none" {
             return Ok(None);
         }
-        let element = T::read(word).ok_or(Reason::Element)?;
-        Ok(Some(element))
+        T::read(word).map(Some).ok_or(Reason::Element)
     }
 
     /// A list.
-    pub fn list<T: Element>(&mut self) -> Result<Vec<T>, Fault> {
+    pub fn list<T: Element>(&mut self) -> Result<Vec<T>, Fault>
+        ensures { IfOk result (λ list. IsTaken (words_left self.old) (words_left self.new) (λ word. IsListWord T.stands word list.items)) }
+    {
         let word = self.word()?;
         read_list(self.alloc(), word)
     }
 
     /// A table.
-    pub fn table<T: Element>(&mut self) -> Result<Poly<T>, Fault> {
+    pub fn table<T: Element>(&mut self) -> Result<Poly<T>, Fault>
+        ensures { IfOk result (λ table. IsTaken (words_left self.old) (words_left self.new) (λ word. IsListWord T.stands word table)) }
+    {
         let evals = self.list()?;
         if !evals.len().is_power_of_two() {
             return Err(Fault::Unknown(Reason::Length));
@@ -51,7 +60,8 @@ impl Words<'_> {
 
     /// A table with at least one variable.
     pub fn larger_table<T: Element>(&mut self) -> Result<Poly<T>, Fault>
-        ensures { IfOk result (λ table. 1 < length table) }
+        ensures word { IfOk result (λ table. IsTaken (words_left self.old) (words_left self.new) (λ word. IsListWord T.stands word table)) }
+        ensures size { IfOk result (λ table. 1 < length table) }
     {
         let table = self.table()?;
         if table.num_evals() < 2 {
@@ -61,13 +71,16 @@ impl Words<'_> {
     }
 
     /// A point.
-    pub fn point<T: Element>(&mut self) -> Result<Point<T>, Fault> {
+    pub fn point<T: Element>(&mut self) -> Result<Point<T>, Fault>
+        ensures { IfOk result (λ point. IsTaken (words_left self.old) (words_left self.new) (λ word. IsListWord T.stands word point)) }
+    {
         Ok(Point::new(self.list()?))
     }
 
     /// A point whose table is made.
     pub fn short_point<T: Element>(&mut self) -> Result<Point<T>, Fault>
-        ensures { IfOk result (λ point. 2 ^ length point < 2 ^ 64) }
+        ensures word { IfOk result (λ point. IsTaken (words_left self.old) (words_left self.new) (λ word. IsListWord T.stands word point)) }
+        ensures size { IfOk result (λ point. 2 ^ length point < 2 ^ 64) }
     {
         let point = self.point()?;
         if point.num_variables() > MOST_VARIABLES {
@@ -189,7 +202,9 @@ fn split_table<F: Field, EF: ExtensionField<F>>(
 }
 
 /// The list that the word stands for.
-fn read_list<T: Element>(alloc: Global, word: &str) -> Result<Vec<T>, Fault> {
+fn read_list<T: Element>(alloc: Global, word: &str) -> Result<Vec<T>, Fault>
+    ensures { IfOk result (λ list. IsListWord T.stands word.now list.items) }
+{
     let mut list = Vec::new(alloc);
     if word == NONE {
         return Ok(list);

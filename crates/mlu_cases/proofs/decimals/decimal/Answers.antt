@@ -1,6 +1,6 @@
-use Rattle.std.proofs.Common.{rules, refl, ◌∙◌, sym}
+use Rattle.std.proofs.Common.{refl}
 use Rattle.std.proofs.lemmas.Bool.{false≢true}
-use Rattle.mlu_cases.proofs.Decimals.{decimal-HasPlainStart, number-parsed}
+use Rattle.mlu_cases.proofs.Parsing.{decimal-HasPlainStart, number-parsed}
 use Rattle.mlu_cases.proofs.decimals.decimal.Goals as goal
 
 pub returns-then-not-has_plain_start : goal.returns-then-not-has_plain_start
