@@ -1,7 +1,6 @@
 -- Lines as they are read one by one, and bytes as they are written one after the other.
-use Rattle.std.proofs.Common.{◌≡◌, ◌≢◌, ℕ, ◌+◌, ◌↔◌, Bool, true, false, eqb, cond, List, [], ◌∷◌, ◌++◌, Option, None, Some, IfSome, Result, Ok, Err, OnOk, codes, refl, sym, ap, ◌∙◌, subst, arith, append_assoc}
+use Rattle.std.proofs.Common.{◌≡◌, ◌≢◌, ℕ, ◌+◌, Bool, true, false, eqb, cond, List, [], ◌∷◌, ◌++◌, Option, None, Some, IfSome, Result, Ok, Err, OnOk, codes, refl, ap, ◌∙◌, subst, arith, append_assoc}
 use Rattle.std.specs.Io.BufRead.{drop_through, DropsThrough}
-use Rattle.std.specs.Io.KnownBytes.{Appends}
 use Rattle.mlu_replay.specs.Counts.{Grows, IsGiven, line_count}
 
 -- so many lines were read

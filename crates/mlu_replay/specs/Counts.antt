@@ -1,8 +1,10 @@
 -- How many cases there are, and what the program says of all of them.
-use Rattle.std.specs.Prelude.{◌≡◌, ◌≢◌, ℕ, ◌+◌, List, [], ◌∷◌, ◌++◌, ◌==◌, if◌then◌else◌, codes, decimal}
+use Rattle.std.specs.Prelude.{◌≡◌, ◌≢◌, ℕ, ◌+◌, List, [], ◌∷◌, ◌++◌, ◌==◌, if◌then◌else◌, ◌⊎◌, None, IsUtf8, codes, decimal}
 use Rattle.mlu_cases.specs.declared.fault.Reason.{Reason}
+use Rattle.mlu_cases.specs.declared.fault.Reason.TheVariants.{Text, Equals}
 use Rattle.mlu_replay.specs.declared.stop.Stop.{Stop}
 use Rattle.mlu_replay.specs.declared.stop.Stop.TheVariants.{Read, Memory, Write}
+use Rattle.std.specs.Str.Pattern.{FindsText}
 use Rattle.std.specs.Io.KnownBytes.{Appends}
 use Rattle.std.specs.declared.option.Option.{Option}
 
@@ -36,6 +38,10 @@ IsGiven line P = (asked given answer : List ℕ) × (line ≡ asked ++ (codes " 
 -- some reason
 abbrev pub IsUnknown : (Reason → Type 0) → Type 0
 IsUnknown P = (reason : Reason) × P reason
+
+-- why a line is no case: it is no text, or has nowhere an equals sign between spaces
+abbrev pub IsNoCase : List ℕ → Reason → Type 0
+IsNoCase line reason = ((reason ≡ Text) × (IsUtf8 line → ⊥)) ⊎ ((reason ≡ Equals) × FindsText (codes " = ") line None)
 
 -- the last line
 abbrev pub count_line : ℕ → ℕ → ℕ → List ℕ

@@ -3,7 +3,7 @@ ghost use Rattle.std.specs.Prelude.{◌≡◌, ◌≢◌, ◌+◌, ◌<◌, ◌�
 ghost use Rattle.std.specs.Io.KnownBytes.{Appends, IsAtEnd};
 ghost use Rattle.std.specs.IoError.{error_kind};
 ghost use Rattle.std.specs.Io.BufRead.{DropsThrough, first_piece};
-ghost use Rattle.mlu_replay.specs.Counts.{Grows, GrowsTo, IsGiven, IsUnknown, count_line, differ_line, unknown_line, line_count};
+ghost use Rattle.mlu_replay.specs.Counts.{Grows, GrowsTo, IsGiven, IsNoCase, IsUnknown, count_line, differ_line, unknown_line, line_count};
 ghost use Rattle.mlu_cases.specs.Faults.{reason_text};
 ghost use Rattle.mlu_cases.specs.Words.{first_word};
 
@@ -98,7 +98,8 @@ struct Case<'a> {
 
 impl<'a> Case<'a> {
     fn read(line: &'a [u8]) -> Result<Self, Reason>
-        ensures { IfOk result (λ case. line.now ≡ case.asked.now ++ (codes " = " ++ case.given.now)) }
+        ensures case { IfOk result (λ case. line.now ≡ case.asked.now ++ (codes " = " ++ case.given.now)) }
+        ensures none { IfErr result (λ reason. IsNoCase line.now reason) }
     {
         let text = str::from_utf8(line).map_err(|_| Reason::Text)?;
         let (asked, given) = text.split_once(" = ").ok_or(Reason::Equals)?;

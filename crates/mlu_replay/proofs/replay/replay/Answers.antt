@@ -1,4 +1,4 @@
-use Rattle.std.proofs.Common.{rules, ◌+◌, ap, ◌∙◌}
+use Rattle.std.proofs.Common.{◌+◌, ap, ◌∙◌}
 use Rattle.mlu_replay.proofs.Lines.{HasRead-line, Grows-on}
 use Rattle.mlu_replay.proofs.replay.replay.Goals as goal
 

@@ -1,4 +1,4 @@
-use Rattle.std.proofs.Common.{rules, ◌≢◌}
+use Rattle.std.proofs.Common.{rules}
 use Rattle.mlu_replay.specs.Counts.{differ_line}
 use Rattle.mlu_cases.specs.Words.{first_word}
 use Rattle.std.specs.Io.KnownBytes.{Appends}
