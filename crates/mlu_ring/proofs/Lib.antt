@@ -20,3 +20,4 @@ pub mod RingMaps
 pub mod Folds
 pub mod PowersOfTwo
 pub mod Logical
+pub mod CallsInTurn

@@ -16,9 +16,9 @@ module _ {R : Type 0} (ring : Ring R) (laws : RingLaws ring) where
   infixl 60 ◌⊗◌
   open ring use {sum as ◌⊕◌, product as ◌⊗◌, zero as 𝟘, one as 𝟙}
 
-  written : (a b c d u v w x : R) → pair ring (a ∷ b ∷ c ∷ d ∷ []) (u ∷ v ∷ w ∷ x ∷ []) ≡ ((a ⊗ u) ⊕ (b ⊗ v)) ⊕ ((c ⊗ w) ⊕ (d ⊗ x))
+  pub pair-of_four : (a b c d u v w x : R) → pair ring (a ∷ b ∷ c ∷ d ∷ []) (u ∷ v ∷ w ∷ x ∷ []) ≡ ((a ⊗ u) ⊕ (b ⊗ v)) ⊕ ((c ⊗ w) ⊕ (d ⊗ x))
   unfolding pair sum_below
-  written a b c d u v w x = simp (sum_zero ring laws, laws.sum_assoc)
+  pair-of_four a b c d u v w x = simp (sum_zero ring laws, laws.sum_assoc)
 
   -- four products, added in two halves, from what is read of the lists
   pub pair-four : (l r : List R) (a b c d u v w x : R) → length l ≡ 4 → length r ≡ 4
@@ -26,5 +26,5 @@ module _ {R : Type 0} (ring : Ring R) (laws : RingLaws ring) where
       → u ≡ get_or r 0 u → v ≡ get_or r 1 v → w ≡ get_or r 2 w → x ≡ get_or r 3 x
       → ((a ⊗ u) ⊕ (b ⊗ v)) ⊕ ((c ⊗ w) ⊕ (d ⊗ x)) ≡ pair ring l r
   pair-four (l0 ∷ l1 ∷ l2 ∷ l3 ∷ []) (r0 ∷ r1 ∷ r2 ∷ r3 ∷ []) a b c d u v w x h k ea eb ec ed eu ev ew ex =
-      cc (ea, eb, ec, ed, eu, ev, ew, ex, written l0 l1 l2 l3 r0 r1 r2 r3)
+      cc (ea, eb, ec, ed, eu, ev, ew, ex, pair-of_four l0 l1 l2 l3 r0 r1 r2 r3)
   pair-four l r a b c d u v w x h k ea eb ec ed eu ev ew ex = absurd (omega arith)

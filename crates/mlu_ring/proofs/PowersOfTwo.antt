@@ -1,5 +1,5 @@
 -- Powers of two that fit a word, as lengths of tables.
-use Rattle.std.proofs.Common.{Bool, true, false, List, length, take, length-take, ◌≡◌, ℕ, zero, suc, ◌+◌, ◌*◌, ◌/◌, ◌%◌, ◌^◌, ◌<◌, ◌≤◌, arith, refl, ap, ◌∙◌, sym, subst, rules}
+use Rattle.std.proofs.Common.{Bool, true, false, List, length, take, length-take, ◌≡◌, ℕ, zero, suc, ◌+◌, ◌*◌, ◌/◌, ◌%◌, ◌^◌, ◌<◌, arith, refl, ap, ◌∙◌, sym, subst, rules}
 use Rattle.std.specs.Prelude.{IsTrue, count_ones, if◌then◌else◌}
 use Rattle.std.specs.Int.{is_power_of_two}
 use Rattle.std.specs.Int.Count.{count_trailing_zeros}

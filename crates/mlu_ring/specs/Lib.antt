@@ -4,3 +4,4 @@ pub mod Tables
 pub mod Successor
 pub mod Lanes
 pub mod Matrices
+pub mod Calls

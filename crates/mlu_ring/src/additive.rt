@@ -27,7 +27,7 @@ pub trait Additive: Copy
 
     /// The element added to itself.
     #[inline]
-    fn double(self) -> Self
+    final fn double(self) -> Self
         ensures { result ≡ ring.sum self self }
     {
         self + self

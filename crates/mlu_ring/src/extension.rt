@@ -1,5 +1,6 @@
 ghost use Rattle.std.specs.Prelude.{◌≡◌, ◌<◌, ℕ, List, length, map, replicate, slice_index_or, slice_set};
 ghost use Rattle.std.specs.Simd.Lanes.{zip2};
+ghost use Rattle.mlu_ring.specs.Calls.{CalledInTurn};
 ghost use Rattle.mlu_ring.specs.Lanes.{IsLists, IsLaneByLane, logical};
 
 use crate::additive::Additive;
@@ -36,7 +37,7 @@ pub trait ExtensionField<F: Field>: Field + Algebra<F> {
     /// The element whose coefficient `k` is `f(k)`, which is called for 0, 1, .. in order.
     final fn from_coefficients_fn<G: FnMut(usize) -> F>(mut f: G) -> Self
         requires { (state : G) (k : ℕ) → G.pre state k }
-        ensures { (k : ℕ) → k < DIMENSION → (before : G) × (after : G) × G.step before k (slice_index_or (coefficients result) k F.ring.zero) after }
+        ensures { (after : G) × CalledInTurn (λ s k c t. G.step s k c t) DIMENSION (λ k. slice_index_or (coefficients result) k F.ring.zero) f after }
     {
         let mut element = Self::ZERO;
         for k in 0..Self::DIMENSION {
@@ -94,7 +95,7 @@ pub trait PackedFieldExtension<F: Field, EF: ExtensionField<F>>: PrimeCharacteri
     /// The packed value whose coefficient `k` is `f(k)`, which is called for 0, 1, .. in order.
     final fn from_packed_coefficients_fn<G: FnMut(usize) -> F::Packing>(mut f: G) -> Self
         requires { (state : G) (k : ℕ) → G.pre state k }
-        ensures { (k : ℕ) → k < EF.DIMENSION → (before : G) × (after : G) × G.step before k (slice_index_or (packed_coefficients result) k F.Packing.ring.zero) after }
+        ensures { (after : G) × CalledInTurn (λ s k c t. G.step s k c t) EF.DIMENSION (λ k. slice_index_or (packed_coefficients result) k F.Packing.ring.zero) f after }
     {
         let mut packed = Self::ZERO;
         for k in 0..EF::DIMENSION {

@@ -1,4 +1,4 @@
-ghost use Rattle.std.specs.Prelude.{◌≡◌, ◌+◌, ◌*◌, ◌/◌, ◌<◌, ◌≤◌, length, take, drop, slice_range};
+ghost use Rattle.std.specs.Prelude.{◌≡◌, ◌+◌, ◌*◌, ◌/◌, ◌<◌, ◌≤◌, ⊤, length, take, drop, slice_range};
 ghost use Rattle.mlu_ring.specs.Matrices.{AreRows};
 
 use std::alloc::AllocError;
@@ -21,6 +21,8 @@ pub struct RowMajorMatrixView<'a, F> {
 
 impl<F> Clone for RowMajorMatrixView<'_, F> {
     ghost is_clone = { λ a b. a ≡ b };
+
+    ghost is_infallible = { λ _. ⊤ };
 
     fn clone(&self) -> Result<Self, AllocError> {
         Ok(*self)

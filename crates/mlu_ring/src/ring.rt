@@ -1,4 +1,5 @@
-ghost use Rattle.std.specs.Prelude.{◌≡◌, IfOk, if◌then◌else◌, replicate};
+ghost use Rattle.std.specs.Prelude.{◌≡◌, ◌∷◌, [], IfOk, if◌then◌else◌, replicate};
+ghost use Rattle.mlu_ring.specs.Tables.{pair};
 
 use crate::additive::Additive;
 use std::alloc::{AllocError, Global};
@@ -30,6 +31,17 @@ pub trait PrimeCharacteristicRing: Additive + Mul<Self, Output = Self> {
         ensures { result ≡ (if b then Self.ring.one else Self.ring.zero) }
     {
         if b { Self::ONE } else { Self::ZERO }
+    }
+
+    /// The sum of the four products `l.i * r.i`.
+    ///
+    /// A product in an extension of degree 4 is four of these, so a ring that can put off its
+    /// reduction to the end of a sum has a body of its own.
+    #[inline]
+    fn four_products(l: &(Self, Self, Self, Self), r: &(Self, Self, Self, Self)) -> Self
+        ensures { result ≡ pair Self.ring (l.now.0 ∷ l.now.1 ∷ l.now.2 ∷ l.now.3 ∷ []) (r.now.0 ∷ r.now.1 ∷ r.now.2 ∷ r.now.3 ∷ []) }
+    {
+        l.0 * r.0 + l.1 * r.1 + (l.2 * r.2 + l.3 * r.3)
     }
 
     /// `len` zeros, in one growth of exactly that many elements.

@@ -1,4 +1,4 @@
-use Rattle.std.proofs.Common.{◌≡◌, ◌+◌, ◌<◌, ap, sym, ◌∙◌, arith, length, refl, rules}
+use Rattle.std.proofs.Common.{ap, arith, length, rules}
 use Rattle.mlu_ring.proofs.LanesLeft.{lanes_left-same, lanes_left-next}
 use Rattle.mlu_ring.proofs.ext_lanes.ExtLanesIterator.next.Goals as goal
 use Rattle.mlu_ring.proofs.ext_lanes.ExtLanesIterator.next.Goals.{then-self-width, else-self-width}

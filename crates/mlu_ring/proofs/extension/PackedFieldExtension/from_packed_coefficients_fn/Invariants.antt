@@ -1,6 +1,6 @@
-use Rattle.std.proofs.Common.{ℕ, ◌<◌, get_or}
+use Rattle.std.proofs.Common.{get_or}
+use Rattle.mlu_ring.specs.Calls.{CalledInTurn}
 use Rattle.mlu_ring.proofs.extension.PackedFieldExtension.from_packed_coefficients_fn.Given as goal
 
 abbrev pub invariant-loop-k : goal.invariant-loop-k
-invariant-loop-k g l =
-    (j : ℕ) → j < l.k → (before : g.row.G.Denot) × (after : g.row.G.Denot) × goal.G-step g before j (get_or (g.Self.PackedFieldExtension.packed_coefficients l.packed) j g.F.Packing.Additive.ring.zero) after
+invariant-loop-k g l = CalledInTurn (λ s k c t. goal.G-step g s k c t) l.k (λ k. get_or (g.Self.PackedFieldExtension.packed_coefficients l.packed) k g.F.Packing.Additive.ring.zero) l.initial.f l.f
