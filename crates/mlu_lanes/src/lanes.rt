@@ -1,4 +1,4 @@
-ghost use Rattle.std.specs.Prelude.{◌≡◌, length};
+ghost use Rattle.std.specs.Prelude.{◌≡◌, ⊤, length};
 
 use std::alloc::AllocError;
 
@@ -17,6 +17,8 @@ pub struct Lanes<F, const W: usize> {
 
 impl<F: Copy, const W: usize> Clone for Lanes<F, W> {
     ghost is_clone = { λ a b. a ≡ b };
+
+    ghost is_infallible = { λ _. ⊤ };
 
     fn clone(&self) -> Result<Self, AllocError> {
         Ok(*self)

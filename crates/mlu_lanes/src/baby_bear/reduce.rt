@@ -27,3 +27,17 @@ pub fn reduce_product(x: u64) -> u32
     let quotient = ((x >> 30) % 4294967296) * RECIPROCAL >> 32;
     reduce_once((x - quotient * u64::from(MODULUS)) as u32)
 }
+
+/// The residue of any word, with no division: a sum of four products of two residues is one.
+///
+/// `2^32` is `2^28 - 2` modulo the modulus, which folds `x` to `folded` below `2^60`. `quotient` is
+/// that of `folded` or one less, and the remainder by 2^32 is as above.
+#[inline(always)]
+pub fn reduce_word(x: u64) -> u32
+    ensures { result ≡ x % MODULUS }
+{
+    let high = x >> 32;
+    let folded = ((high << 28) - (high << 1)) + x % 4294967296;
+    let quotient = ((folded >> 28) % 4294967296) * RECIPROCAL >> 34;
+    reduce_once((folded - quotient * u64::from(MODULUS)) as u32)
+}

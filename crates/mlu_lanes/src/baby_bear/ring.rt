@@ -1,7 +1,7 @@
 ghost use Rattle.std.specs.Prelude.{◌≡◌, refl};
 ghost use Rattle.mlu_lanes.specs.BabyBear.{baby_bear_ring, baby_bear_laws, eq_canonical};
 
-use super::reduce::{reduce_once, reduce_product};
+use super::reduce::{reduce_once, reduce_product, reduce_word};
 use super::{BabyBear, MODULUS};
 use mlu_ring::{Additive, PrimeCharacteristicRing};
 use std::ops::{Add, Mul, Neg, Sub};
@@ -53,7 +53,7 @@ impl<const W: usize> Mul for BabyBear<W> {
     #[inline]
     fn mul(self, other: Self) -> Self {
         BabyBear {
-            value: reduce_product(u64::from(self.value) * u64::from(other.value)),
+            value: reduce_product(self.unreduced(other)),
         }
     }
 }
@@ -99,6 +99,16 @@ impl<const W: usize> PrimeCharacteristicRing for BabyBear<W> {
 
     ghost NEG_ONE = { (baby_bear_ring W).negation (baby_bear_ring W).one };
 
+    // Four products of residues sum to less than 2^64, so one reduction is enough.
+    #[inline(always)]
+    fn four_products(l: &(Self, Self, Self, Self), r: &(Self, Self, Self, Self)) -> Self {
+        let low = l.0.unreduced(r.0) + l.1.unreduced(r.1);
+        let high = l.2.unreduced(r.2) + l.3.unreduced(r.3);
+        BabyBear {
+            value: reduce_word(low + high),
+        }
+    }
+
     ghost can_mul_law = { λ a b. tt };
 
     ghost multiplies = { λ a b r h. h };
@@ -106,4 +116,18 @@ impl<const W: usize> PrimeCharacteristicRing for BabyBear<W> {
     ghost two_is = { refl };
 
     ghost neg_one_is = { refl };
+}
+
+impl<const W: usize> BabyBear<W> {
+    ghost use Rattle.std.specs.Prelude.{◌*◌, ◌≤◌};
+    ghost use Rattle.mlu_lanes.specs.BabyBear.{canonical};
+
+    // The product of the residues, as integers.
+    #[inline(always)]
+    fn unreduced(self, other: Self) -> u64
+        ensures value { result ≡ canonical self.entry * canonical other.entry }
+        ensures small { result ≤ 2013265920 * 2013265920 }
+    {
+        u64::from(self.value) * u64::from(other.value)
+    }
 }

@@ -29,6 +29,11 @@ fn products<R: PrimeCharacteristicRing>(a: R, b: R) -> R {
     (a * b).square() * R::TWO + R::NEG_ONE + R::from_bool(true) - R::from_bool(false)
 }
 
+/// 4 x^2
+fn four_squares<R: PrimeCharacteristicRing>(x: R) -> R {
+    R::four_products(&(x, x, x, x), &(x, x, x, x))
+}
+
 fn zeros<R: PrimeCharacteristicRing>(alloc: Global) -> Result<Vec<R>, AllocError> {
     R::zero_vec(alloc, 3)
 }
@@ -88,6 +93,19 @@ fn rings_of_lanes(rt: HostRuntime) -> Result<(), Fail> {
         [Bears::ZERO; 3].as_slice()
     );
     Ok(())
+}
+
+#[test]
+fn four_products(rt: HostRuntime) {
+    let [a, b, c, d] = [1, 2, 3, 4].map(Bear::from_u32);
+    let sum = Bear::four_products(&(a, b, c, d), &(d, c, b, b));
+    assert_eq!(rt; sum, Bear::from_u32(24));
+    assert_eq!(rt; four_squares(Bear::NEG_ONE), Bear::from_u32(4));
+    assert_eq!(rt; four_squares(Word::NEG_ONE), Word::new(4));
+    assert_eq!(rt;
+        four_squares(Bears::NEG_ONE),
+        Bears::splat(Bear::from_u32(4))
+    );
 }
 
 /// The lanes loaded, stored and read

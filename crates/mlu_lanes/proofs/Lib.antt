@@ -1,0 +1,2 @@
+pub mod LaneSums
+pub mod ResidueSums
