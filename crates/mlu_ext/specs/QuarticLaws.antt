@@ -5,7 +5,7 @@ use Rattle.std.specs.Cmp.Derive.{both_true}
 use Rattle.mlu_ring.specs.Ring.{Ring, RingLaws, IsRingMap}
 use Rattle.mlu_ring.specs.Sums.{sum_below}
 use Rattle.mlu_ring.specs.Tables.{pair}
-use Rattle.mlu_ring.proofs.Pairs.{pair-four}
+use Rattle.mlu_ring.proofs.Pairs.{pair-of_four}
 use Rattle.mlu_ring.proofs.Rings.{sum_zero, negation_zero, product_zero, zero_product, sum_product, sum_left_comm, product_left_comm}
 use Rattle.mlu_ext.specs.Eleven.{eleven}
 use Rattle.mlu_ext.specs.Quartic.{convolution, reduced, quartic_coefficients, quartic, constant, quartic_product, quartic_ring}
@@ -119,8 +119,8 @@ module _ {R : Type 0} (ring : Ring R) (laws : RingLaws ring) where
       (reduced-3 a.c0 a.c1 a.c2 a.c3 b.c0 b.c1 b.c2 b.c3)
 
   -- four products, added in two halves
-  pub pair-row : (a : QuarticExtension R) (u v w x : R) → (a.c0 ⊗ u) ⊕ (a.c1 ⊗ v) ⊕ ((a.c2 ⊗ w) ⊕ (a.c3 ⊗ x)) ≡ pair ring (quartic_coefficients a) (u ∷ v ∷ w ∷ x ∷ [])
-  pair-row a u v w x = pair-four ring laws (quartic_coefficients a) (u ∷ v ∷ w ∷ x ∷ []) a.c0 a.c1 a.c2 a.c3 u v w x refl refl refl refl refl refl refl refl refl refl
+  pair-row : (a : QuarticExtension R) (u v w x : R) → (a.c0 ⊗ u) ⊕ (a.c1 ⊗ v) ⊕ ((a.c2 ⊗ w) ⊕ (a.c3 ⊗ x)) ≡ pair ring (quartic_coefficients a) (u ∷ v ∷ w ∷ x ∷ [])
+  pair-row a u v w x = sym (pair-of_four ring laws a.c0 a.c1 a.c2 a.c3 u v w x)
 
   -- each coefficient of the product is a sum of four products
   pub product-rows : (a b : QuarticExtension R) (r1 r2 r3 k0 k1 k2 k3 : R) → r1 ≡ eleven ring ⊗ b.c1 → r2 ≡ eleven ring ⊗ b.c2 → r3 ≡ eleven ring ⊗ b.c3

@@ -1,4 +1,4 @@
-ghost use Rattle.std.specs.Prelude.{◌≡◌};
+ghost use Rattle.std.specs.Prelude.{◌≡◌, ⊤};
 
 use mlu_lanes::Lanes;
 use std::alloc::AllocError;
@@ -19,6 +19,8 @@ pub struct ProductAlgebra<R, const D: usize> {
 
 impl<R: Copy, const D: usize> Clone for ProductAlgebra<R, D> {
     ghost is_clone = { λ a b. a ≡ b };
+
+    ghost is_infallible = { λ _. ⊤ };
 
     fn clone(&self) -> Result<Self, AllocError> {
         Ok(*self)

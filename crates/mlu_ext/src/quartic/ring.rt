@@ -1,7 +1,6 @@
-ghost use Rattle.std.specs.Prelude.{◌≡◌, ◌∷◌, []};
-ghost use Rattle.mlu_ring.specs.Tables.{pair};
+ghost use Rattle.std.specs.Prelude.{◌≡◌};
 ghost use Rattle.mlu_ext.specs.Eleven.{eleven};
-ghost use Rattle.mlu_ext.specs.Quartic.{constant, quartic_coefficients, quartic_ring};
+ghost use Rattle.mlu_ext.specs.Quartic.{constant, quartic_ring};
 ghost use Rattle.mlu_ext.specs.QuarticLaws.{quartic_laws, quartic_same, quartic_eq, constant_two, constant_neg_one};
 
 use super::QuarticExtension;
@@ -61,18 +60,19 @@ impl<R: PrimeCharacteristicRing> Mul for QuarticExtension<R> {
 
     ghost mul_gives = { λ a b r. r ≡ (quartic_ring R.ring).product a b };
 
-    // 16 products of R and 27 additions: 12 of the products, and 5 for each of three times 11.
-    #[inline]
+    // Always inlined: a loop by one element then makes its eleven-fold coefficients once.
+    #[inline(always)]
     fn mul(self, rhs: Self) -> Self {
+        let own = (self.c0, self.c1, self.c2, self.c3);
         let QuarticExtension { c0, c1, c2, c3 } = rhs;
         let r1 = times_eleven(c1);
         let r2 = times_eleven(c2);
         let r3 = times_eleven(c3);
         QuarticExtension {
-            c0: self.dot(c0, r3, r2, r1),
-            c1: self.dot(c1, c0, r3, r2),
-            c2: self.dot(c2, c1, c0, r3),
-            c3: self.dot(c3, c2, c1, c0),
+            c0: R::four_products(&own, &(c0, r3, r2, r1)),
+            c1: R::four_products(&own, &(c1, c0, r3, r2)),
+            c2: R::four_products(&own, &(c2, c1, c0, r3)),
+            c3: R::four_products(&own, &(c3, c2, c1, c0)),
         }
     }
 }
@@ -148,20 +148,10 @@ impl<R: PrimeCharacteristicRing> PrimeCharacteristicRing for QuarticExtension<R>
 }
 
 // Eleven times x, as 8 x + 2 x + x.
-#[inline]
+#[inline(always)]
 fn times_eleven<R: Additive>(x: R) -> R
     ensures { result ≡ R.ring.product (eleven R.ring) x }
 {
     let two = x.double();
     two.double().double() + two + x
-}
-
-impl<R: PrimeCharacteristicRing> QuarticExtension<R> {
-    // The sum of the products of the coefficients with b0 to b3, in order.
-    #[inline]
-    fn dot(self, b0: R, b1: R, b2: R, b3: R) -> R
-        ensures { result ≡ pair R.ring (quartic_coefficients self) (b0 ∷ b1 ∷ b2 ∷ b3 ∷ []) }
-    {
-        self.c0 * b0 + self.c1 * b1 + (self.c2 * b2 + self.c3 * b3)
-    }
 }

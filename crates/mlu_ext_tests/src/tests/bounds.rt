@@ -34,6 +34,11 @@ fn products<R: PrimeCharacteristicRing>(a: R, b: R) -> R {
     (a * b).square() * R::TWO + R::NEG_ONE + R::from_bool(true) - R::from_bool(false)
 }
 
+/// 4 a b
+fn four_times<R: PrimeCharacteristicRing>(a: R, b: R) -> R {
+    R::four_products(&(a, a, a, a), &(b, b, b, b))
+}
+
 fn zeros<R: PrimeCharacteristicRing>(alloc: Global) -> Result<Vec<R>, AllocError> {
     R::zero_vec(alloc, 3)
 }
@@ -64,6 +69,11 @@ fn products_of_each(rt: HostRuntime) {
         quartic(0, 0, 22, 0)
     );
     assert_eq!(rt; products(pair(1, 2), pair(3, 4)), pair(18, 128));
+    assert_eq!(rt;
+        four_times(quartic(0, 0, 1, 0), quartic(0, 0, 0, 1)),
+        quartic(0, 44, 0, 0)
+    );
+    assert_eq!(rt; four_times(pair(1, 2), pair(3, 4)), pair(12, 32));
 }
 
 #[test]
