@@ -1,4 +1,4 @@
-ghost use Rattle.std.specs.Prelude.{◌≡◌, [], ◌<◌, length, slice_index_or};
+ghost use Rattle.std.specs.Prelude.{◌≡◌, ⊤, [], ◌<◌, length, slice_index_or};
 
 use super::coordinates::{reversed, subrange};
 use super::order::BitOrder;
@@ -17,6 +17,8 @@ pub struct PointView<'a, F> {
 
 impl<F> Clone for PointView<'_, F> {
     ghost is_clone = { λ a b. a ≡ b };
+
+    ghost is_infallible = { λ _. ⊤ };
 
     fn clone(&self) -> Result<Self, AllocError> {
         Ok(*self)

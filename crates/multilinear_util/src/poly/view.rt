@@ -1,4 +1,4 @@
-ghost use Rattle.std.specs.Prelude.{◌≡◌, ◌<◌, ◌^◌, ◌∷◌, [], length, IsTrue, MatchOption};
+ghost use Rattle.std.specs.Prelude.{◌≡◌, ⊤, ◌<◌, ◌^◌, ◌∷◌, [], length, IsTrue, MatchOption};
 ghost use Rattle.std.specs.Int.{is_power_of_two};
 
 use std::alloc::AllocError;
@@ -13,6 +13,8 @@ pub struct PolyView<'a, F> {
 
 impl<F> Clone for PolyView<'_, F> {
     ghost is_clone = { λ a b. a ≡ b };
+
+    ghost is_infallible = { λ _. ⊤ };
 
     fn clone(&self) -> Result<Self, AllocError> {
         Ok(*self)
