@@ -3,4 +3,5 @@ fn main() {
     let kit = std::env::var("RATTLE_KIT").unwrap_or("/opt/rattle".into());
     println!("cargo:rustc-link-search=native={root}/../crates/mlu_bench/out");
     println!("cargo:rustc-link-search=native={kit}/c");
+    println!("cargo:rerun-if-changed={root}/../crates/mlu_bench/out/libmlu_bench.a");
 }
