@@ -1,4 +1,4 @@
-use Rattle.std.proofs.Common.{rules, ◌≡◌, ◌*◌, ◌^◌, length, ap, sym, ◌∙◌}
+use Rattle.std.proofs.Common.{rules}
 use Rattle.mlu_ring.proofs.Rows.{rows_of-multiple}
 use Rattle.mlu_point.proofs.Sizes.{places-of_rows}
 use Rattle.mlu_point_tests.proofs.tests.batches.drawn_base_batch.Goals as goal
