@@ -1,4 +1,4 @@
-use Rattle.std.proofs.Common.{◌≡◌, ◌^◌, ◌∙◌, length, ap, sym}
+use Rattle.std.proofs.Common.{◌^◌, ◌∙◌, length, ap, sym}
 use Rattle.std.proofs.lemmas.List.{length-replicate}
 use Rattle.multilinear_util.proofs.Packed.{length-packed}
 use Rattle.multilinear_util_tests.proofs.tests.packing.packs.Goals as goal

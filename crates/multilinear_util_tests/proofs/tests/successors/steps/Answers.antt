@@ -1,4 +1,4 @@
-use Rattle.std.proofs.Common.{◌≡◌, ◌^◌, ◌∙◌, length, ap, arith}
+use Rattle.std.proofs.Common.{◌∙◌, length, ap, arith}
 use Rattle.multilinear_util_tests.proofs.tests.successors.steps.Goals as goal
 
 pub compress_prefix_shifted-requires : goal.compress_prefix_shifted-requires
