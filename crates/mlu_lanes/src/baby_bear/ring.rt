@@ -119,14 +119,14 @@ impl<const W: usize> PrimeCharacteristicRing for BabyBear<W> {
 }
 
 impl<const W: usize> BabyBear<W> {
-    ghost use Rattle.std.specs.Prelude.{◌*◌, ◌≤◌};
+    ghost use Rattle.std.specs.Prelude.{◌*◌, ◌^◌, ◌<◌};
     ghost use Rattle.mlu_lanes.specs.BabyBear.{canonical};
 
     // The product of the residues, as integers.
     #[inline(always)]
     fn unreduced(self, other: Self) -> u64
         ensures value { result ≡ canonical self.entry * canonical other.entry }
-        ensures small { result ≤ 2013265920 * 2013265920 }
+        ensures small { result < 2 ^ 62 }
     {
         u64::from(self.value) * u64::from(other.value)
     }

@@ -1,6 +1,6 @@
 use Rattle.std.proofs.Common.{◌≡◌, length}
 use Rattle.mlu_ext.specs.Transposed.{column_of}
-use Rattle.mlu_ext.proofs.Filled.{IsFilled}
+use Rattle.mlu_lanes.proofs.Filled.{IsFilled}
 use Rattle.mlu_ext.proofs.coefficients.column.Given as goal
 
 abbrev pub invariant-loop-k : goal.invariant-loop-k

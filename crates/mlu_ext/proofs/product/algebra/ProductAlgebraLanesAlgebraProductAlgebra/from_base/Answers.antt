@@ -3,7 +3,7 @@ use Rattle.std.proofs.lemmas.List.{length-map, get_or-map}
 use Rattle.mlu_lanes.specs.LaneRing.{splat}
 use Rattle.mlu_ext.specs.Product.{entries_of, same_entries}
 use Rattle.mlu_ext.specs.ProductMaps.{product_map}
-use Rattle.mlu_ext.proofs.Filled.{filled_next, filled_whole}
+use Rattle.mlu_lanes.proofs.Filled.{filled_next, filled_whole}
 use Rattle.mlu_ext.proofs.product.algebra.ProductAlgebraLanesAlgebraProductAlgebra.from_base.Goals as goal
 
 pub loop-c-preserved : goal.loop-c-preserved

@@ -3,7 +3,7 @@ use Rattle.mlu_lanes.specs.LaneRing.{values_of, splat}
 use Rattle.mlu_lanes.specs.BabyBear.{baby_bear_ring}
 use Rattle.mlu_ext.specs.Product.{entries_of}
 use Rattle.mlu_ext.specs.ProductMaps.{product-of_lane}
-use Rattle.mlu_ext.proofs.Filled.{read_default}
+use Rattle.mlu_lanes.proofs.Filled.{read_default}
 use Rattle.mlu_ext.proofs.product.packed.ProductAlgebraLanesBabyBearPackedFieldExtensionBabyBearProductAlgebraBabyBear.ext_lane.Goals as goal
 
 pub loop-c-preserved : goal.loop-c-preserved

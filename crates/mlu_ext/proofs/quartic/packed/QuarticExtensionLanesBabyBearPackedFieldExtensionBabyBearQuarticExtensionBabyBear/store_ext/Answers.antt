@@ -2,7 +2,7 @@ use Rattle.std.proofs.Common.{arith}
 use Rattle.mlu_lanes.specs.BabyBear.{baby_bear_ring}
 use Rattle.mlu_ext.specs.Quartic.{constant}
 use Rattle.mlu_ext.specs.QuarticPacked.{quartic_elements, elements_are_lists}
-use Rattle.mlu_ext.proofs.Filled.{filled_next, filled_whole}
+use Rattle.mlu_lanes.proofs.Filled.{filled_next, filled_whole}
 use Rattle.mlu_ext.proofs.quartic.packed.QuarticExtensionLanesBabyBearPackedFieldExtensionBabyBearQuarticExtensionBabyBear.store_ext.Goals as goal
 
 pub loop-k-preserved : goal.loop-k-preserved

@@ -1,6 +1,7 @@
-use Rattle.std.proofs.Common.{◌≡◌, ◌<◌, ℕ, [], ◌∷◌, length, get_or}
+use Rattle.std.proofs.Common.{◌≡◌, [], ◌∷◌, length}
 use Rattle.mlu_ring.specs.Tables.{pair}
 use Rattle.mlu_lanes.specs.LaneRing.{values_of, lane_ring}
+use Rattle.mlu_lanes.proofs.Filled.{IsFilled}
 use Rattle.mlu_lanes.proofs.lanes.ring.LanesPrimeCharacteristicRing.four_products.Given as goal
 
 abbrev pub invariant-loop-k : goal.invariant-loop-k
@@ -9,5 +10,5 @@ invariant-loop-k g l =
     let sums = pair (lane_ring g.row.W g.F.Additive.ring) (l.l.0 ∷ l.l.1 ∷ l.l.2 ∷ l.l.3 ∷ []) (l.r.0 ∷ l.r.1 ∷ l.r.2 ∷ l.r.3 ∷ []) in
     record {
       long : length l.values ≡ g.row.W;
-      done : (j : ℕ) → j < l.k → get_or l.values j zero ≡ get_or (values_of sums) j zero;
+      filled : IsFilled zero l.values (values_of sums) l.k;
     }
