@@ -16,6 +16,8 @@ fn rings_and_lanes(rt: HostRuntime) {
     let lanes = Lanes::from_array([1, 2, 3, 4].map(BabyBear::<4>::from_u32));
     let doubled = BabyBear::lanes_scale(lanes, two);
     assert_eq!(rt; doubled.lane(3).as_canonical_u32(), 8);
+    let sum = BabyBear::four_products(&(two, two, two, two), &(two, two, two, two));
+    assert_eq!(rt; sum.as_canonical_u32(), 16);
     assert_eq!(rt; (BabyBear::<4>::NEG_ONE + two).as_canonical_u32(), 1);
 }
 
