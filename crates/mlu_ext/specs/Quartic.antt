@@ -48,3 +48,15 @@ quartic_ring ring = record {
   negation = λ a. quartic (ring.negation a.c0) (ring.negation a.c1) (ring.negation a.c2) (ring.negation a.c3);
   product = quartic_product ring;
 }
+
+-- P holds of each coefficient
+abbrev pub EachCoefficient : {R : Type 0} → (R → Type 0) → QuarticExtension R → Type 0
+EachCoefficient P a = P a.c0 × P a.c1 × P a.c2 × P a.c3
+
+-- and of the coefficients of two, one by one
+abbrev pub EachCoefficientPair : {R : Type 0} → (R → R → Type 0) → QuarticExtension R → QuarticExtension R → Type 0
+EachCoefficientPair P a b = P a.c0 b.c0 × P a.c1 b.c1 × P a.c2 b.c2 × P a.c3 b.c3
+
+-- and of those of three
+abbrev pub EachCoefficientTriple : {R : Type 0} → (R → R → R → Type 0) → QuarticExtension R → QuarticExtension R → QuarticExtension R → Type 0
+EachCoefficientTriple P a b c = P a.c0 b.c0 c.c0 × P a.c1 b.c1 c.c1 × P a.c2 b.c2 c.c2 × P a.c3 b.c3 c.c3

@@ -8,11 +8,18 @@ use Rattle.mlu_ring.specs.Tables.{pair}
 use Rattle.mlu_ring.proofs.Pairs.{pair-of_four}
 use Rattle.mlu_ring.proofs.Rings.{sum_zero, negation_zero, product_zero, zero_product, sum_product, sum_left_comm, product_left_comm}
 use Rattle.mlu_ext.specs.Eleven.{eleven}
-use Rattle.mlu_ext.specs.Quartic.{convolution, reduced, quartic_coefficients, quartic, constant, quartic_product, quartic_ring}
+use Rattle.mlu_ext.specs.Quartic.{convolution, reduced, quartic_coefficients, quartic, constant, quartic_product, quartic_ring, EachCoefficientPair, EachCoefficientTriple}
 use Rattle.mlu_ext.specs.declared.quartic.QuarticExtension.{QuarticExtension}
 
 pub quartic_same : {R : Type 0} {a b c d e f g h : R} → a ≡ e → b ≡ f → c ≡ g → d ≡ h → quartic a b c d ≡ quartic e f g h
 quartic_same p q r s = λ i. quartic (p i) (q i) (r i) (s i)
+
+-- where a relation of the coefficients is a function, that of the polynomials is this function of each
+pub coefficients_by : {R : Type 0} (P : R → R → R → Type 0) (f : R → R → R) → ((x y z : R) → P x y z → z ≡ f x y) → (a b r : QuarticExtension R) → EachCoefficientTriple P a b r → r ≡ quartic (f a.c0 b.c0) (f a.c1 b.c1) (f a.c2 b.c2) (f a.c3 b.c3)
+coefficients_by P f gives a b r h = quartic_same (gives _ _ _ h.0) (gives _ _ _ h.1) (gives _ _ _ h.2) (gives _ _ _ h.3)
+
+pub coefficients_each_by : {R : Type 0} (P : R → R → Type 0) (f : R → R) → ((x z : R) → P x z → z ≡ f x) → (a r : QuarticExtension R) → EachCoefficientPair P a r → r ≡ quartic (f a.c0) (f a.c1) (f a.c2) (f a.c3)
+coefficients_each_by P f gives a r h = quartic_same (gives _ _ h.0) (gives _ _ h.1) (gives _ _ h.2) (gives _ _ h.3)
 
 module _ {R : Type 0} (ring : Ring R) (laws : RingLaws ring) where
   infixl 50 ◌⊕◌

@@ -1,5 +1,6 @@
 pub mod Zips
 pub mod LaneRing
+pub mod ByPlaces
 pub mod Fill
 pub mod Itself
 pub mod Residues

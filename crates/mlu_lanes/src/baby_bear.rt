@@ -1,5 +1,7 @@
-ghost use Rattle.std.specs.Prelude.{◌≡◌, ◌<◌, ◌%◌};
+ghost use Rattle.std.specs.Prelude.{◌≡◌, ⊤, ◌<◌, ◌%◌};
 ghost use Rattle.mlu_lanes.specs.declared.baby_bear.TheConstants.{MODULUS};
+
+use std::alloc::AllocError;
 
 mod extension;
 mod field;
@@ -12,11 +14,24 @@ pub const MODULUS: u32 = 2013265921;
 /// An integer modulo 2013265921, as its least residue.
 ///
 /// `W` is the width of its packed form.
-#[derive(Clone, Copy, Debug, PartialEq, Eq)]
+#[derive(Debug, PartialEq, Eq)]
 pub struct BabyBear<const W: usize> {
     value: u32,
     ghost below: { value < MODULUS },
 }
+
+/// By hand: a derived one would be written out in each bound that the type meets.
+impl<const W: usize> Clone for BabyBear<W> {
+    ghost is_clone = { λ a b. a ≡ b };
+
+    ghost is_infallible = { λ _. ⊤ };
+
+    fn clone(&self) -> Result<Self, AllocError> {
+        Ok(*self)
+    }
+}
+
+impl<const W: usize> Copy for BabyBear<W> {}
 
 impl<const W: usize> BabyBear<W> {
     ghost use Rattle.mlu_lanes.specs.BabyBear.{canonical};

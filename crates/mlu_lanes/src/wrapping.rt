@@ -1,4 +1,6 @@
-ghost use Rattle.std.specs.Prelude.{◌≡◌, ◌<◌, ◌^◌};
+ghost use Rattle.std.specs.Prelude.{◌≡◌, ⊤, ◌<◌, ◌^◌};
+
+use std::alloc::AllocError;
 
 mod conversion;
 mod extension;
@@ -8,11 +10,24 @@ mod ring;
 /// An integer modulo 2^64.
 ///
 /// `W` is the width of its packed form.
-#[derive(Clone, Copy, Debug, PartialEq, Eq)]
+#[derive(Debug, PartialEq, Eq)]
 pub struct WrappingU64<const W: usize> {
     value: u64,
     ghost below: { value < 2 ^ 64 },
 }
+
+/// By hand: a derived one would be written out in each bound that the type meets.
+impl<const W: usize> Clone for WrappingU64<W> {
+    ghost is_clone = { λ a b. a ≡ b };
+
+    ghost is_infallible = { λ _. ⊤ };
+
+    fn clone(&self) -> Result<Self, AllocError> {
+        Ok(*self)
+    }
+}
+
+impl<const W: usize> Copy for WrappingU64<W> {}
 
 impl<const W: usize> WrappingU64<W> {
     ghost use Rattle.mlu_lanes.specs.WrappingU64.{number};

@@ -1,16 +1,18 @@
 ghost use Rattle.std.specs.Prelude.{◌≡◌};
 ghost use Rattle.mlu_ext.specs.Eleven.{eleven};
-ghost use Rattle.mlu_ext.specs.Quartic.{constant, quartic_ring};
-ghost use Rattle.mlu_ext.specs.QuarticLaws.{quartic_laws, quartic_same, quartic_eq, constant_two, constant_neg_one};
+ghost use Rattle.mlu_ext.specs.Quartic.{constant, quartic_ring, EachCoefficient, EachCoefficientPair, EachCoefficientTriple};
+ghost use Rattle.mlu_ext.specs.QuarticLaws.{quartic_laws, quartic_same, quartic_eq, constant_two, constant_neg_one, coefficients_by, coefficients_each_by};
 
 use super::QuarticExtension;
 use mlu_ring::{Additive, PrimeCharacteristicRing};
 use std::ops::{Add, Mul, Neg, Sub};
 
-impl<R: Additive> Add for QuarticExtension<R> {
+impl<R: Add<Output = R>> Add for QuarticExtension<R> {
     type Output = Self;
 
-    ghost add_gives = { λ a b r. r ≡ (quartic_ring R.ring).sum a b };
+    ghost can_add = { EachCoefficientPair R.can_add };
+
+    ghost add_gives = { EachCoefficientTriple R.add_gives };
 
     #[inline]
     fn add(self, rhs: Self) -> Self {
@@ -23,10 +25,12 @@ impl<R: Additive> Add for QuarticExtension<R> {
     }
 }
 
-impl<R: Additive> Sub for QuarticExtension<R> {
+impl<R: Sub<Output = R>> Sub for QuarticExtension<R> {
     type Output = Self;
 
-    ghost sub_gives = { λ a b r. r ≡ (quartic_ring R.ring).minus a b };
+    ghost can_sub = { EachCoefficientPair R.can_sub };
+
+    ghost sub_gives = { EachCoefficientTriple R.sub_gives };
 
     #[inline]
     fn sub(self, rhs: Self) -> Self {
@@ -39,10 +43,12 @@ impl<R: Additive> Sub for QuarticExtension<R> {
     }
 }
 
-impl<R: Additive> Neg for QuarticExtension<R> {
+impl<R: Neg<Output = R>> Neg for QuarticExtension<R> {
     type Output = Self;
 
-    ghost neg_gives = { λ a r. r ≡ (quartic_ring R.ring).negation a };
+    ghost can_neg = { EachCoefficient R.can_neg };
+
+    ghost neg_gives = { EachCoefficientPair R.neg_gives };
 
     #[inline]
     fn neg(self) -> Self {
@@ -106,17 +112,17 @@ impl<R: Additive> Additive for QuarticExtension<R> {
 
     ghost eq_is = { quartic_eq R.eq R.eq_is };
 
-    ghost can_add_law = { λ a b. tt };
+    ghost can_add_law = { λ a b. (R.can_add_law a.c0 b.c0, R.can_add_law a.c1 b.c1, R.can_add_law a.c2 b.c2, R.can_add_law a.c3 b.c3) };
 
-    ghost adds = { λ a b r h. h };
+    ghost adds = { coefficients_by R.add_gives R.ring.sum R.adds };
 
-    ghost can_sub_law = { λ a b. tt };
+    ghost can_sub_law = { λ a b. (R.can_sub_law a.c0 b.c0, R.can_sub_law a.c1 b.c1, R.can_sub_law a.c2 b.c2, R.can_sub_law a.c3 b.c3) };
 
-    ghost subtracts = { λ a b r h. h };
+    ghost subtracts = { coefficients_by R.sub_gives R.ring.minus R.subtracts };
 
-    ghost can_neg_law = { λ a. tt };
+    ghost can_neg_law = { λ a. (R.can_neg_law a.c0, R.can_neg_law a.c1, R.can_neg_law a.c2, R.can_neg_law a.c3) };
 
-    ghost negates = { λ a r h. h };
+    ghost negates = { coefficients_each_by R.neg_gives R.ring.negation R.negates };
 }
 
 impl<R: PrimeCharacteristicRing> PrimeCharacteristicRing for QuarticExtension<R> {

@@ -1,47 +1,59 @@
 ghost use Rattle.std.specs.Prelude.{◌≡◌, ◌<◌, slice_index_or};
 ghost use Rattle.std.proofs.Common.{ap};
 ghost use Rattle.mlu_lanes.specs.LaneRing.{values_of, splat, lane_ring, lane_laws, eq_lanes, splat_two, splat_neg_one};
+ghost use Rattle.mlu_lanes.specs.ByPlaces.{EachBelow, EachPairBelow, EachTripleBelow, zipped_by, mapped_by};
 
 use super::Lanes;
-use mlu_ring::each::{multiply_each, negate_each, sub_each};
 use mlu_ring::{Additive, PrimeCharacteristicRing};
 use std::ops::{Add, Mul, Neg, Sub};
 
-impl<F: Additive, const W: usize> Add for Lanes<F, W> {
+impl<F: Add<Output = F> + Copy, const W: usize> Add for Lanes<F, W> {
     type Output = Self;
 
-    ghost add_gives = { λ a b r. r ≡ (lane_ring W F.ring).sum a b };
+    ghost can_add = { λ a b. EachPairBelow W F.can_add (values_of a) (values_of b) };
+
+    ghost add_gives = { λ a b r. EachTripleBelow W F.add_gives (values_of a) (values_of b) (values_of r) };
 
     #[inline]
     fn add(self, other: Self) -> Self {
         let mut values = self.values;
-        F::add_each(&mut values, &other.values);
+        for k in 0..W {
+            values[k] = self.values[k] + other.values[k];
+        }
         Lanes { values }
     }
 }
 
-impl<F: Additive, const W: usize> Sub for Lanes<F, W> {
+impl<F: Sub<Output = F> + Copy, const W: usize> Sub for Lanes<F, W> {
     type Output = Self;
 
-    ghost sub_gives = { λ a b r. r ≡ (lane_ring W F.ring).minus a b };
+    ghost can_sub = { λ a b. EachPairBelow W F.can_sub (values_of a) (values_of b) };
+
+    ghost sub_gives = { λ a b r. EachTripleBelow W F.sub_gives (values_of a) (values_of b) (values_of r) };
 
     #[inline]
     fn sub(self, other: Self) -> Self {
         let mut values = self.values;
-        sub_each(&mut values, &other.values);
+        for k in 0..W {
+            values[k] = self.values[k] - other.values[k];
+        }
         Lanes { values }
     }
 }
 
-impl<F: Additive, const W: usize> Neg for Lanes<F, W> {
+impl<F: Neg<Output = F> + Copy, const W: usize> Neg for Lanes<F, W> {
     type Output = Self;
 
-    ghost neg_gives = { λ a r. r ≡ (lane_ring W F.ring).negation a };
+    ghost can_neg = { λ a. EachBelow W F.can_neg (values_of a) };
+
+    ghost neg_gives = { λ a r. EachPairBelow W F.neg_gives (values_of a) (values_of r) };
 
     #[inline]
     fn neg(self) -> Self {
         let mut values = self.values;
-        negate_each(&mut values);
+        for k in 0..W {
+            values[k] = -self.values[k];
+        }
         Lanes { values }
     }
 }
@@ -69,28 +81,32 @@ impl<F: Additive, const W: usize> Additive for Lanes<F, W> {
 
     ghost eq_is = { eq_lanes W F.eq F.eq_is };
 
-    ghost can_add_law = { λ a b. tt };
+    ghost can_add_law = { λ a b k h d. F.can_add_law (slice_index_or (values_of a) k d) (slice_index_or (values_of b) k d) };
 
-    ghost adds = { λ a b r h. h };
+    ghost adds = { zipped_by W F.add_gives F.ring.sum F.adds F.ring.zero };
 
-    ghost can_sub_law = { λ a b. tt };
+    ghost can_sub_law = { λ a b k h d. F.can_sub_law (slice_index_or (values_of a) k d) (slice_index_or (values_of b) k d) };
 
-    ghost subtracts = { λ a b r h. h };
+    ghost subtracts = { zipped_by W F.sub_gives F.ring.minus F.subtracts F.ring.zero };
 
-    ghost can_neg_law = { λ a. tt };
+    ghost can_neg_law = { λ a k h d. F.can_neg_law (slice_index_or (values_of a) k d) };
 
-    ghost negates = { λ a r h. h };
+    ghost negates = { mapped_by W F.neg_gives F.ring.negation F.negates F.ring.zero };
 }
 
-impl<F: PrimeCharacteristicRing, const W: usize> Mul for Lanes<F, W> {
+impl<F: Mul<Output = F> + Copy, const W: usize> Mul for Lanes<F, W> {
     type Output = Self;
 
-    ghost mul_gives = { λ a b r. r ≡ (lane_ring W F.ring).product a b };
+    ghost can_mul = { λ a b. EachPairBelow W F.can_mul (values_of a) (values_of b) };
+
+    ghost mul_gives = { λ a b r. EachTripleBelow W F.mul_gives (values_of a) (values_of b) (values_of r) };
 
     #[inline]
     fn mul(self, other: Self) -> Self {
         let mut values = self.values;
-        multiply_each(&mut values, &other.values);
+        for k in 0..W {
+            values[k] = self.values[k] * other.values[k];
+        }
         Lanes { values }
     }
 }
@@ -118,9 +134,9 @@ impl<F: PrimeCharacteristicRing, const W: usize> PrimeCharacteristicRing for Lan
         Lanes { values }
     }
 
-    ghost can_mul_law = { λ a b. tt };
+    ghost can_mul_law = { λ a b k h d. F.can_mul_law (slice_index_or (values_of a) k d) (slice_index_or (values_of b) k d) };
 
-    ghost multiplies = { λ a b r h. h };
+    ghost multiplies = { zipped_by W F.mul_gives F.ring.product F.multiplies F.ring.zero };
 
     ghost two_is = { splat_two W F.ring F.TWO F.two_is };
 

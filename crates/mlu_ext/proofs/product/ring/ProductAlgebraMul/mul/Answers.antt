@@ -1,6 +1,0 @@
-use Rattle.std.proofs.Common.{ap}
-use Rattle.mlu_ext.specs.Product.{product_of}
-use Rattle.mlu_ext.proofs.product.ring.ProductAlgebraMul.mul.Goals as goal
-
-pub returns : goal.returns
-returns g c = ap (product_of g.row.D) c.mul.ensures

@@ -1,0 +1,31 @@
+//! Lists in lanes.
+ghost use Rattle.std.specs.Prelude.{◌≡◌, ◌*◌, IfOk, length, vec_len};
+
+use mlu_ring::{ExtensionField, Field, PackedFieldExtension, PackedValue};
+use std::alloc::{AllocError, Global};
+
+/// The values as `n` packed ones.
+pub fn packed<F: Field, EF: ExtensionField<F>>(
+    alloc: Global,
+    values: &[EF],
+    n: usize,
+) -> Result<Vec<EF::ExtensionPacking>, AllocError>
+    requires { length values.now ≡ n * F.Packing.WIDTH }
+    ensures { IfOk result (λ packed. vec_len packed ≡ n) }
+{
+    let width = F::Packing::WIDTH;
+    let mut packed = Vec::with_capacity(alloc, n)?;
+    for i in 0..n {
+        let start = i * width;
+        packed.push(EF::ExtensionPacking::from_ext_slice(&values[start..start + width]))?;
+    }
+    Ok(packed)
+}
+
+/// The lanes of packed values, in order.
+pub fn lanes<F: Field, EF: ExtensionField<F>>(
+    alloc: Global,
+    packed: &[EF::ExtensionPacking],
+) -> Result<Vec<EF>, AllocError> {
+    EF::ExtensionPacking::to_ext_iter(packed).collect(alloc)
+}
