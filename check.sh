@@ -1,14 +1,14 @@
 #!/usr/bin/env bash
 # The tests of the repository. First the calls that take memory, with the first, the second, ..
 # allocation of each refused, until none is refused any more; then the merge gate, which proves every
-# crate from nothing, tries edits that must be refused, and runs the tests and the program.
+# crate from nothing, tries the edits of crates/*/must-fail, which must be refused, and runs the tests and
+# the program.
 #
-# All edits take longer than all proofs. So the edits of every fifth crate are tried, counted from the
-# one with the most, one more commit taking the next ones; with --all-edits, those of every crate.
+# With --edits NAME.., all edits of those crates are tried and nothing else: those of edits/NAME beside
+# those of the gate, over the libraries that earlier checks kept; with --edits alone, those of every crate.
 set -euo pipefail
 cd "$(dirname "$0")"
 
-turns=5
 places=$(nproc)
 room=$(mktemp -d)
 trap 'rm -rf "$room"' EXIT
@@ -59,34 +59,36 @@ refusals() {
   echo "$crate: $(echo "$served" | wc -l) calls, each allocation refused in turn"
 }
 
-# The folders of edits, those with the most first.
-by_edits() {
-  local folder
-  for folder in crates/*/must-fail; do
-    echo "$(ls "$folder" | wc -l) $folder"
-  done | sort -k 1,1nr -k 2 | cut -d ' ' -f 2
+# Tries all edits of the crates $@, on a copy that has those of edits/ beside those of the gate.
+edits() {
+  local crate tried refused
+  mkdir "$room/tree"
+  tar -c --exclude=./.git . | tar -x -C "$room/tree"
+  cd "$room/tree"
+  : >"$room/tried"
+  for crate in "$@"; do
+    mkdir -p "crates/$crate/must-fail"
+    cp "edits/$crate"/*.edit "crates/$crate/must-fail"
+    ls "crates/$crate/must-fail" >>"$room/tried"
+  done
+  rt must-fail "$@" | tee "$room/said" || true
+  tried=$(wc -l <"$room/tried")
+  refused=$(grep -cE '^rt: must-fail .*: refused, as it must be' "$room/said" || true)
+  echo "$refused refused, $((tried - refused)) not"
+  [ "$refused" -eq "$tried" ]
 }
 
-# The gate: on the repository with $1 = --all-edits, else on a copy without the edits of the crates
-# whose turn it is not.
-gate() {
-  local turn crate tried
-  if [ "$1" != --all-edits ]; then
-    mkdir "$room/gate"
-    tar -c --exclude=./.git --exclude=out --exclude=target . | tar -x -C "$room/gate"
-    turn=$(($(git rev-list --count HEAD 2>/dev/null || echo 1) % turns))
-    tried=$(by_edits | awk -v turn="$turn" -v turns="$turns" 'NR % turns == turn')
-    cd "$room/gate"
-    for crate in crates/*/must-fail; do
-      grep -qxF "$crate" <<<"$tried" || rm -r "$crate"
-    done
-    echo "edits of" $tried
-  fi
-  rt ci
-}
+if [ "${1:-}" = --edits ]; then
+  shift
+  [ $# -gt 0 ] || set -- $(ls edits)
+  edits "$@"
+  exit
+fi
 
 refusals mlu_refusals
 refusals mlu
-gate "${1:-}" | tee "$room/said"
+status=0
+rt ci | tee "$room/said" || status=$?
 echo "all of it took $((SECONDS / 60)) minutes on $places processors"
 tail -n 1 "$room/said"
+exit "$status"
