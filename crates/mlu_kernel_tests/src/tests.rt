@@ -1,122 +1,209 @@
 //! Worked rows, and drawn tables against the plain sums.
-ghost use Rattle.std.specs.Prelude.{◌≡◌, ◌<◌, ◌*◌, IfOk, length, vec_len};
+ghost use Rattle.std.specs.Prelude.{◌≡◌, ◌<◌, ◌*◌, IfOk, length};
 
 use mlu_ext::QuarticExtension;
 use mlu_kernel::{
     compress_hi_dot_packed, compress_hi_dot_packed_eager, compress_prefix_to_packed_packed,
     compress_prefix_to_packed_packed_kernel_eager, lane_total, packed_dot,
 };
-use mlu_lanes::{BabyBear, Lanes};
-use mlu_ring::{
-    Additive, Algebra, ExtensionField, Field, Lanewise, PackedFieldExtension, PackedValue, Sample,
-};
+use mlu_lanes::{BabyBear, LaneWidth, Lanes};
+use mlu_ring::{Additive, Algebra, ExtensionField, Field, Lanewise, PackedValue, Sample};
+use mlu_test_support::draws::drawn;
+use mlu_test_support::lanes::packed;
+use mlu_test_support::numbers::{element, elements};
+use mlu_test_support::plain::{add_rows, dot, images, split_table};
 use rand_pcg::Pcg32;
 use std::alloc::{AllocError, Global};
 use std::test::Fail;
 
-macro_rules! bears {
-    ($($n:expr),*) => { [$(BabyBear::<4>::from_u32($n)),*] };
+/// A call and what it is to answer.
+enum Row {
+    TwoRows,
+    OneRow,
+    FourRows,
+    NoRow,
+    PlainSums,
 }
 
-#[test]
-fn dot_of_two_rows(rt: HostRuntime) {
-    let eq1 = [Lanes::from_array(bears![1, 2, 3, 4])];
-    let chunk = bears![1, 2, 3, 4, 5, 6, 7, 8];
-    let [sum] = bears![730];
-    assert_eq!(rt; compress_hi_dot_packed(&eq1, &chunk, &bears![1, 10]), sum);
-    assert_eq!(rt;
-        compress_hi_dot_packed_eager(&eq1, &chunk, &bears![1, 10]),
-        sum
-    );
-}
-
-#[test]
-fn lanes_of_one_row(rt: HostRuntime) {
-    let eq1 = [Lanes::from_array(bears![1, 2, 3, 4])];
-    let dot = packed_dot::<BabyBear<4>, BabyBear<4>>(&eq1, &bears![5, 6, 7, 8]);
-    let [sum] = bears![70];
-    assert_eq!(rt; lane_total::<BabyBear<4>, BabyBear<4>>(dot), sum);
-}
-
-#[test]
-fn four_rows_added(rt: HostRuntime) {
-    let eq1 = [Lanes::from_array(bears![1, 1, 1, 1])];
-    let chunk = bears![0, 1, 2, 3, 4, 5, 6, 7, 8, 9, 10, 11, 12, 13, 14, 15];
-    let [two] = bears![2];
-    let mut out = [Lanes::from_array(bears![1, 2, 3, 4])];
-    let mut eager = out;
-    compress_prefix_to_packed_packed(&mut out, &eq1, &chunk, two);
-    compress_prefix_to_packed_packed_kernel_eager(&mut eager, &eq1, &chunk, two);
-    assert_eq!(rt; out, [Lanes::from_array(bears![49, 58, 67, 76])]);
-    assert_eq!(rt; eager, out);
-}
-
-#[test]
-fn nothing_to_add_up(rt: HostRuntime) {
-    type Quartic = QuarticExtension<BabyBear<4>>;
-    let sum = compress_hi_dot_packed::<BabyBear<4>, Quartic>(&[], &[], &[Quartic::ZERO; 2]);
-    assert_eq!(rt; sum, Quartic::ZERO);
-}
-
-/// `n` drawn elements.
-fn drawn<T: Sample + Copy>(alloc: Global, rng: &mut Pcg32, n: usize) -> Result<Vec<T>, AllocError>
-    ensures { IfOk result (λ v. vec_len v ≡ n) }
-{
-    let mut values = Vec::with_capacity(alloc, n)?;
-    while values.len() < n {
-        values.push(T::sample(rng))?;
-    }
-    Ok(values)
-}
-
-/// The values, `n` packed ones.
-fn packed<F: Field, EF: ExtensionField<F>>(
+/// Whether the row holds.
+fn holds<F: Field + Sample, EF: ExtensionField<F> + Sample>(
     alloc: Global,
-    values: &[EF],
-    n: usize,
-) -> Result<Vec<EF::ExtensionPacking>, AllocError>
-    requires { length values.now ≡ n * F.Packing.WIDTH }
-    ensures { IfOk result (λ v. vec_len v ≡ n) }
+    row: Row,
+) -> Result<bool, AllocError>
+    requires { F.Packing.WIDTH < 32 }
 {
-    let width = F::Packing::WIDTH;
-    let mut packed = Vec::with_capacity(alloc, n)?;
-    for i in 0..n {
-        let start = i * width;
-        packed.push(EF::ExtensionPacking::from_ext_slice(&values[start..start + width]))?;
+    match row {
+        Row::TwoRows => dot_of_two_rows::<F, EF>(alloc),
+        Row::OneRow => lanes_of_one_row::<F, EF>(alloc),
+        Row::FourRows => four_rows_added::<F, EF>(alloc),
+        Row::NoRow => dot_of_no_row::<F, EF>(alloc),
+        Row::PlainSums => kernels_agree::<F, EF>(alloc),
     }
-    Ok(packed)
 }
 
-/// The sum over `j` and `i` of `eq0[j] * eq1[i] * chunk[j * eq1.len() + i]`.
-fn plain_dot<F: Field, EF: ExtensionField<F>>(eq1: &[EF], chunk: &[F], eq0: &[EF]) -> EF
-    requires { length chunk.now ≡ length eq0.now * length eq1.now }
+// The two functions below alone name the rings: each function that does costs seconds for every
+// impl that the rings stand on, and a call of these costs nothing of it.
+
+/// [`holds`] over the base field.
+fn residues<const W: usize>(alloc: Global, row: Row) -> Result<bool, AllocError>
+where
+    Lanes<BabyBear<W>, W>: LaneWidth<W>,
+    requires { W < 32 }
 {
-    let mut sum = EF::ZERO;
-    for j in 0..eq0.len() {
-        let start = j * eq1.len();
-        let row = &chunk[start..start + eq1.len()];
-        for i in 0..eq1.len() {
-            sum = sum + (eq0[j] * eq1[i]).scale(row[i]);
-        }
-    }
-    sum
+    holds::<BabyBear<W>, BabyBear<W>>(alloc, row)
 }
 
-/// Adds the sum over `i` of `w0 * eq1[i] * chunk[i * out.len() + z]` to each `out[z]`.
-fn plain_prefix<F: Field, EF: ExtensionField<F>>(out: &mut [EF], eq1: &[EF], chunk: &[F], w0: EF)
-    requires { length chunk.now ≡ length eq1.now * length out.old }
+/// [`holds`] over the quartic extension.
+fn quartics<const W: usize>(alloc: Global, row: Row) -> Result<bool, AllocError>
+where
+    Lanes<BabyBear<W>, W>: LaneWidth<W>,
+    requires { W < 32 }
 {
-    for i in 0..eq1.len() {
-        let start = i * out.len();
-        let row = &chunk[start..start + out.len()];
-        for z in 0..out.len() {
-            out[z] = out[z] + (w0 * eq1[i]).scale(row[z]);
-        }
+    holds::<BabyBear<W>, QuarticExtension<BabyBear<W>>>(alloc, row)
+}
+
+#[test]
+fn worked_dots(rt: HostRuntime) -> Result<(), Fail> {
+    assert!(rt; residues::<4>(rt.alloc(), Row::TwoRows)?);
+    assert!(rt; quartics::<4>(rt.alloc(), Row::TwoRows)?);
+    assert!(rt; residues::<4>(rt.alloc(), Row::OneRow)?);
+    assert!(rt; quartics::<4>(rt.alloc(), Row::OneRow)?);
+    assert!(rt; residues::<4>(rt.alloc(), Row::NoRow)?);
+    assert!(rt; quartics::<4>(rt.alloc(), Row::NoRow)?);
+    Ok(())
+}
+
+#[test]
+fn worked_rows_added(rt: HostRuntime) -> Result<(), Fail> {
+    assert!(rt; residues::<4>(rt.alloc(), Row::FourRows)?);
+    assert!(rt; quartics::<4>(rt.alloc(), Row::FourRows)?);
+    Ok(())
+}
+
+#[test]
+fn plain_sums_over_the_field(rt: HostRuntime) -> Result<(), Fail> {
+    assert!(rt; residues::<1>(rt.alloc(), Row::PlainSums)?);
+    assert!(rt; residues::<2>(rt.alloc(), Row::PlainSums)?);
+    assert!(rt; residues::<4>(rt.alloc(), Row::PlainSums)?);
+    assert!(rt; residues::<8>(rt.alloc(), Row::PlainSums)?);
+    Ok(())
+}
+
+#[test]
+fn plain_sums_over_the_quartic(rt: HostRuntime) -> Result<(), Fail> {
+    assert!(rt; quartics::<1>(rt.alloc(), Row::PlainSums)?);
+    assert!(rt; quartics::<2>(rt.alloc(), Row::PlainSums)?);
+    assert!(rt; quartics::<4>(rt.alloc(), Row::PlainSums)?);
+    assert!(rt; quartics::<8>(rt.alloc(), Row::PlainSums)?);
+    Ok(())
+}
+
+/// Whether both forms of the dot give the sum.
+fn dots_are<F: Field, EF: ExtensionField<F>>(
+    eq1: &[EF::ExtensionPacking],
+    chunk: &[F],
+    eq0: &[EF],
+    sum: EF,
+) -> bool
+    requires { length chunk.now ≡ length eq0.now * (length eq1.now * F.Packing.WIDTH) }
+{
+    let eager = compress_hi_dot_packed_eager::<F, EF>(eq1, chunk, eq0);
+    compress_hi_dot_packed::<F, EF>(eq1, chunk, eq0) == sum && eager == sum
+}
+
+/// Whether both forms of the prefix kernel make `expected` of `out`.
+fn rows_added_are<F: Field, EF: ExtensionField<F>>(
+    alloc: Global,
+    out: &[EF::ExtensionPacking],
+    eq1: &[EF::ExtensionPacking],
+    chunk: &[F],
+    w0: EF,
+    expected: &[EF::ExtensionPacking],
+) -> Result<bool, AllocError>
+    requires { length chunk.now ≡ length eq1.now * (F.Packing.WIDTH * (length out.now * F.Packing.WIDTH)) }
+{
+    let mut added = Vec::from_slice(alloc, out)?;
+    compress_prefix_to_packed_packed::<F, EF>(&mut added, eq1, chunk, w0);
+    let mut eager = Vec::from_slice(alloc, out)?;
+    compress_prefix_to_packed_packed_kernel_eager::<F, EF>(&mut eager, eq1, chunk, w0);
+    Ok(added.as_slice() == expected && eager.as_slice() == expected)
+}
+
+/// Whether the dot of two rows of four lanes is 730.
+fn dot_of_two_rows<F: Field, EF: ExtensionField<F>>(alloc: Global) -> Result<bool, AllocError> {
+    if F::Packing::WIDTH != 4 {
+        return Ok(false);
     }
+    let eq1 = packed::<F, EF>(alloc, &elements(alloc, &[1, 2, 3, 4])?, 1)?;
+    let chunk = elements(alloc, &[1, 2, 3, 4, 5, 6, 7, 8])?;
+    let eq0 = elements(alloc, &[1, 10])?;
+    Ok(dots_are::<F, EF>(&eq1, &chunk, &eq0, element(730)))
+}
+
+/// Whether the lanes of the dot of one row of four lanes add up to 70.
+fn lanes_of_one_row<F: Field, EF: ExtensionField<F>>(alloc: Global) -> Result<bool, AllocError> {
+    if F::Packing::WIDTH != 4 {
+        return Ok(false);
+    }
+    let eq1 = packed::<F, EF>(alloc, &elements(alloc, &[1, 2, 3, 4])?, 1)?;
+    let row = elements(alloc, &[5, 6, 7, 8])?;
+    Ok(lane_total::<F, EF>(packed_dot::<F, EF>(&eq1, &row)) == element(70))
+}
+
+/// Whether four rows of four lanes, each times two, are added up.
+fn four_rows_added<F: Field, EF: ExtensionField<F>>(alloc: Global) -> Result<bool, AllocError> {
+    if F::Packing::WIDTH != 4 {
+        return Ok(false);
+    }
+    let out = packed::<F, EF>(alloc, &elements(alloc, &[1, 2, 3, 4])?, 1)?;
+    let eq1 = packed::<F, EF>(alloc, &elements(alloc, &[1, 1, 1, 1])?, 1)?;
+    let chunk = elements(alloc, &[0, 1, 2, 3, 4, 5, 6, 7, 8, 9, 10, 11, 12, 13, 14, 15])?;
+    let expected = packed::<F, EF>(alloc, &elements(alloc, &[49, 58, 67, 76])?, 1)?;
+    rows_added_are::<F, EF>(alloc, &out, &eq1, &chunk, EF::TWO, &expected)
+}
+
+/// Whether the dot with no weights in the rows is zero.
+fn dot_of_no_row<F: Field, EF: ExtensionField<F>>(alloc: Global) -> Result<bool, AllocError> {
+    let eq0 = elements(alloc, &[0, 0])?;
+    Ok(dots_are::<F, EF>(&[], &[], &eq0, EF::ZERO))
+}
+
+/// The sum over `j` and `i` of `eq0[j] * weights[i] * chunk[j * weights.len() + i]`.
+fn plain_dot<F: Additive, EF: Algebra<F>>(
+    alloc: Global,
+    weights: &[EF],
+    chunk: &[F],
+    eq0: &[EF],
+) -> Result<EF, AllocError>
+    requires weights { length weights.now < 256 }
+    requires rows { length eq0.now < 256 }
+{
+    let whole = split_table(alloc, eq0, weights)?;
+    Ok(dot(&whole, &images::<F, EF>(alloc, chunk)?))
+}
+
+/// The entries, and added to each entry `z` the sum over `i` of
+/// `scale[0] * weights[i] * chunk[i * entries.len() + z]`.
+fn plain_prefix<F: Additive, EF: Algebra<F>>(
+    alloc: Global,
+    entries: &[EF],
+    weights: &[EF],
+    chunk: &[F],
+    scale: &[EF],
+) -> Result<Vec<EF>, AllocError>
+    requires chunk { length chunk.now ≡ length weights.now * length entries.now }
+    requires weights { length weights.now < 256 }
+    requires scale { length scale.now ≡ 1 }
+    ensures { IfOk result (λ sums. length sums.items ≡ length entries.now) }
+{
+    let scaled = split_table(alloc, scale, weights)?;
+    let mut sums = Vec::from_slice(alloc, entries)?;
+    add_rows(&mut sums, &scaled, &images::<F, EF>(alloc, chunk)?);
+    Ok(sums)
 }
 
 /// Whether both forms of the dot give the plain sum, for `n` packed weights and `rows` rows.
-fn dot_agrees<F: Field + Sample, EF: ExtensionField<F> + Sample>(
+fn dots_agree<F: Field + Sample, EF: ExtensionField<F> + Sample>(
     alloc: Global,
     rng: &mut Pcg32,
     n: usize,
@@ -131,14 +218,13 @@ fn dot_agrees<F: Field + Sample, EF: ExtensionField<F> + Sample>(
     let chunk = drawn::<F>(alloc, rng, rows * row_length)?;
     let eq0 = drawn::<EF>(alloc, rng, rows)?;
     let eq1 = packed::<F, EF>(alloc, &weights, n)?;
-    let sum = plain_dot(&weights, &chunk, &eq0);
-    let eager = compress_hi_dot_packed_eager::<F, EF>(&eq1, &chunk, &eq0);
-    Ok(compress_hi_dot_packed::<F, EF>(&eq1, &chunk, &eq0) == sum && eager == sum)
+    let sum = plain_dot(alloc, &weights, &chunk, &eq0)?;
+    Ok(dots_are::<F, EF>(&eq1, &chunk, &eq0, sum))
 }
 
 /// Whether both forms of the prefix kernel add the plain sums, for `n` packed weights and
 /// `positions` packed outputs.
-fn prefix_agrees<F: Field + Sample, EF: ExtensionField<F> + Sample>(
+fn prefixes_agree<F: Field + Sample, EF: ExtensionField<F> + Sample>(
     alloc: Global,
     rng: &mut Pcg32,
     n: usize,
@@ -150,53 +236,31 @@ fn prefix_agrees<F: Field + Sample, EF: ExtensionField<F> + Sample>(
 {
     let width = F::Packing::WIDTH;
     let weights = drawn::<EF>(alloc, rng, n * width)?;
-    let mut plain = drawn::<EF>(alloc, rng, positions * width)?;
+    let entries = drawn::<EF>(alloc, rng, positions * width)?;
     let chunk = drawn::<F>(alloc, rng, n * (width * (positions * width)))?;
-    let w0 = EF::sample(rng);
+    let scale = drawn::<EF>(alloc, rng, 1)?;
+    let sums = plain_prefix(alloc, &entries, &weights, &chunk, &scale)?;
+    let expected = packed::<F, EF>(alloc, &sums, positions)?;
+    let out = packed::<F, EF>(alloc, &entries, positions)?;
     let eq1 = packed::<F, EF>(alloc, &weights, n)?;
-    let mut out = packed::<F, EF>(alloc, &plain, positions)?;
-    let mut eager = packed::<F, EF>(alloc, &plain, positions)?;
-    compress_prefix_to_packed_packed::<F, EF>(&mut out, &eq1, &chunk, w0);
-    compress_prefix_to_packed_packed_kernel_eager::<F, EF>(&mut eager, &eq1, &chunk, w0);
-    plain_prefix(&mut plain, &weights, &chunk, w0);
-    let expected = packed::<F, EF>(alloc, &plain, positions)?;
-    Ok(out.as_slice() == expected.as_slice() && eager.as_slice() == expected.as_slice())
+    rows_added_are::<F, EF>(alloc, &out, &eq1, &chunk, scale[0], &expected)
 }
 
 /// Whether the kernels give the plain sums for all small shapes, the empty ones too.
 fn kernels_agree<F: Field + Sample, EF: ExtensionField<F> + Sample>(
     alloc: Global,
-    seed: u64,
 ) -> Result<bool, AllocError>
     requires { F.Packing.WIDTH < 32 }
 {
-    let mut rng = Pcg32::new(seed, 54);
+    let mut rng = Pcg32::new(1, 54);
     for n in 0..4 {
         for m in 0..4 {
-            if !dot_agrees::<F, EF>(alloc, &mut rng, n, m)?
-                || !prefix_agrees::<F, EF>(alloc, &mut rng, n, m)?
+            if !dots_agree::<F, EF>(alloc, &mut rng, n, m)?
+                || !prefixes_agree::<F, EF>(alloc, &mut rng, n, m)?
             {
                 return Ok(false);
             }
         }
     }
     Ok(true)
-}
-
-#[test]
-fn plain_sums_over_the_field(rt: HostRuntime) -> Result<(), Fail> {
-    assert!(rt; kernels_agree::<BabyBear<1>, BabyBear<1>>(rt.alloc(), 1)?);
-    assert!(rt; kernels_agree::<BabyBear<2>, BabyBear<2>>(rt.alloc(), 2)?);
-    assert!(rt; kernels_agree::<BabyBear<4>, BabyBear<4>>(rt.alloc(), 4)?);
-    assert!(rt; kernels_agree::<BabyBear<8>, BabyBear<8>>(rt.alloc(), 8)?);
-    Ok(())
-}
-
-#[test]
-fn plain_sums_over_the_quartic(rt: HostRuntime) -> Result<(), Fail> {
-    assert!(rt; kernels_agree::<BabyBear<1>, QuarticExtension<BabyBear<1>>>(rt.alloc(), 1)?);
-    assert!(rt; kernels_agree::<BabyBear<2>, QuarticExtension<BabyBear<2>>>(rt.alloc(), 2)?);
-    assert!(rt; kernels_agree::<BabyBear<4>, QuarticExtension<BabyBear<4>>>(rt.alloc(), 4)?);
-    assert!(rt; kernels_agree::<BabyBear<8>, QuarticExtension<BabyBear<8>>>(rt.alloc(), 8)?);
-    Ok(())
 }

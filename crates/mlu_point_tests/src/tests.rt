@@ -1,130 +1,291 @@
-//! Worked rows at each field, and tables, values and batches against plain sums.
-ghost use Rattle.std.specs.Prelude.{◌≡◌, ◌<◌, length, IfOk};
+//! Worked rows at each field, and tables, values and batches at drawn points against plain sums.
+//!
+//! A row is a function over any rings that gives whether it holds, reached by its name in [`Row`] or
+//! [`FieldRow`].
 
 mod batches;
 mod evaluations;
 mod points;
-mod products;
 mod tables;
 
 use mlu_ext::{ProductAlgebra, QuarticExtension};
-use mlu_lanes::{BabyBear, WrappingU64};
-use mlu_point::point::Point;
-use mlu_ring::{Additive, ExtensionField, Field, PrimeCharacteristicRing, Sample};
-use rand_core::SeedableRng;
-use rand_pcg::Pcg32;
+use mlu_lanes::{BabyBear, LaneWidth, Lanes, WrappingU64};
+use mlu_ring::{ExtensionField, Field, Sample};
 use std::alloc::{AllocError, Global};
-use std::process::Abort;
 use std::test::Fail;
 
-/// The image of a whole number.
-fn element<R: Additive>(number: i32) -> R {
-    let mut sum = R::ZERO;
-    for _ in 0..number.unsigned_abs() {
-        sum = sum + R::ONE;
+/// A row over one field. Those that are drawn have so many variables.
+#[derive(Clone, Copy)]
+enum FieldRow {
+    Parts,
+    ViewParts,
+    Growth,
+    Tables,
+    ThreeCoordinates,
+    ManyCoordinates,
+    MadePoints,
+    SideBySide,
+    Steps,
+    DrawnPoints,
+    DrawnTables(usize),
+    DrawnSteps(usize),
+}
+
+/// A row over a field and an extension of it. Those that are drawn have so many variables, and
+/// batches so many points.
+#[derive(Clone, Copy)]
+enum Row {
+    Field(FieldRow),
+    Values,
+    Batches,
+    BaseBatches,
+    NoPoints,
+    DrawnValues(usize),
+    DrawnBatches(usize, usize),
+    DrawnBaseBatches(usize, usize),
+}
+
+/// Whether the row over one field holds.
+fn holds_over<R: Field + Sample>(alloc: Global, row: FieldRow) -> Result<bool, AllocError> {
+    match row {
+        FieldRow::Parts => points::parts::<R>(alloc),
+        FieldRow::ViewParts => points::parts_of_a_view::<R>(alloc),
+        FieldRow::Growth => points::growth::<R>(alloc),
+        FieldRow::Tables => tables::rows::<R>(alloc),
+        FieldRow::ThreeCoordinates => tables::three_coordinates::<R>(alloc),
+        FieldRow::ManyCoordinates => tables::many_coordinates::<R>(alloc),
+        FieldRow::MadePoints => evaluations::made_points::<R>(alloc),
+        FieldRow::SideBySide => evaluations::side_by_side::<R>(alloc),
+        FieldRow::Steps => evaluations::steps::<R>(alloc),
+        FieldRow::DrawnPoints => points::draws::<R>(alloc),
+        FieldRow::DrawnTables(n) => tables::draws::<R>(alloc, n),
+        FieldRow::DrawnSteps(n) => evaluations::drawn_steps::<R>(alloc, n),
     }
-    if number < 0 { -sum } else { sum }
 }
 
-/// The images of whole numbers.
-fn elements<R: Additive>(alloc: Global, numbers: &[i32]) -> Result<Vec<R>, AllocError>
-    ensures { IfOk result (λ elements. length elements.items ≡ length numbers.now) }
+/// Whether the row holds.
+fn holds<F: Field + Sample, EF: ExtensionField<F> + Sample>(
+    alloc: Global,
+    row: Row,
+) -> Result<bool, AllocError> {
+    match row {
+        Row::Field(row) => holds_over::<EF>(alloc, row),
+        Row::Values => evaluations::values::<F, EF>(alloc),
+        Row::Batches => batches::rows::<F, EF>(alloc),
+        Row::BaseBatches => batches::rows_of_the_base::<F, EF>(alloc),
+        Row::NoPoints => batches::without_points::<F, EF>(alloc),
+        Row::DrawnValues(n) => evaluations::drawn_values::<F, EF>(alloc, n),
+        Row::DrawnBatches(n, points) => batches::draws::<F, EF>(alloc, n, points),
+        Row::DrawnBaseBatches(n, points) => batches::draws_of_the_base::<F, EF>(alloc, n, points),
+    }
+}
+
+// The functions below alone name the rings: each that does costs seconds for every impl that its
+// rings stand on, and a call of it costs nothing of that.
+
+/// [`holds`] over residues, at a lane width.
+fn residues<const W: usize>(alloc: Global, row: Row) -> Result<bool, AllocError>
+where
+    Lanes<BabyBear<W>, W>: LaneWidth<W>,
 {
-    numbers.iter().map(|number| element(*number)).collect(alloc)
+    holds::<BabyBear<W>, BabyBear<W>>(alloc, row)
 }
 
-/// Whether these are the images of the numbers.
-fn are<R: Additive>(elements: &[R], numbers: &[i32]) -> bool {
-    for (x, number) in elements.iter().zip(numbers.iter()) {
-        if *x != element(*number) {
-            return false;
+/// [`holds`] over words.
+fn words(alloc: Global, row: Row) -> Result<bool, AllocError> {
+    holds::<WrappingU64<4>, WrappingU64<4>>(alloc, row)
+}
+
+/// [`holds`] over quartics alone.
+fn quartics(alloc: Global, row: Row) -> Result<bool, AllocError> {
+    holds::<QuarticExtension<BabyBear<4>>, QuarticExtension<BabyBear<4>>>(alloc, row)
+}
+
+/// [`holds`] over quartics and residues.
+fn quartics_over_residues(alloc: Global, row: Row) -> Result<bool, AllocError> {
+    holds::<BabyBear<4>, QuarticExtension<BabyBear<4>>>(alloc, row)
+}
+
+/// [`holds`] over an extension of residues. The bound names its field, since at products a call with
+/// two types as parameters is more than the prover takes.
+fn over_residues<EF: ExtensionField<BabyBear<4>> + Sample>(
+    alloc: Global,
+    row: Row,
+) -> Result<bool, AllocError> {
+    holds::<BabyBear<4>, EF>(alloc, row)
+}
+
+/// [`holds`] over pairs of residues.
+fn pairs(alloc: Global, row: Row) -> Result<bool, AllocError> {
+    over_residues::<ProductAlgebra<BabyBear<4>, 2>>(alloc, row)
+}
+
+/// [`holds_over`] products of no copy.
+fn no_copies(alloc: Global, row: FieldRow) -> Result<bool, AllocError> {
+    holds_over::<ProductAlgebra<BabyBear<4>, 0>>(alloc, row)
+}
+
+/// [`holds_over`] products of nine copies.
+fn nine_copies(alloc: Global, row: FieldRow) -> Result<bool, AllocError> {
+    holds_over::<ProductAlgebra<BabyBear<4>, 9>>(alloc, row)
+}
+
+/// Whether two drawn points over pairs of another lane width differ.
+fn narrow_pairs(alloc: Global) -> Result<bool, AllocError> {
+    points::draws::<ProductAlgebra<BabyBear<2>, 2>>(alloc)
+}
+
+/// Whether the row holds at each field and extension.
+fn everywhere(alloc: Global, row: Row) -> Result<bool, AllocError> {
+    Ok(
+        residues::<4>(alloc, row)?
+            && residues::<8>(alloc, row)?
+            && words(alloc, row)?
+            && quartics(alloc, row)?
+            && quartics_over_residues(alloc, row)?
+            && pairs(alloc, row)?,
+    )
+}
+
+/// Whether the row holds at each field, and at products of no copy and of nine.
+fn everywhere_and_in_products(alloc: Global, row: FieldRow) -> Result<bool, AllocError> {
+    Ok(
+        everywhere(alloc, Row::Field(row))?
+            && no_copies(alloc, row)?
+            && nine_copies(alloc, row)?,
+    )
+}
+
+#[test]
+fn parts_of_points(rt: HostRuntime) -> Result<(), Fail> {
+    assert!(rt; everywhere(rt.alloc(), Row::Field(FieldRow::Parts))?);
+    Ok(())
+}
+
+#[test]
+fn parts_of_views(rt: HostRuntime) -> Result<(), Fail> {
+    assert!(rt; everywhere(rt.alloc(), Row::Field(FieldRow::ViewParts))?);
+    Ok(())
+}
+
+#[test]
+fn points_grow(rt: HostRuntime) -> Result<(), Fail> {
+    assert!(rt; everywhere(rt.alloc(), Row::Field(FieldRow::Growth))?);
+    Ok(())
+}
+
+#[test]
+fn points_are_drawn(rt: HostRuntime) -> Result<(), Fail> {
+    assert!(rt; everywhere(rt.alloc(), Row::Field(FieldRow::DrawnPoints))?);
+    Ok(())
+}
+
+#[test]
+fn points_of_narrow_pairs_are_drawn(rt: HostRuntime) -> Result<(), Fail> {
+    assert!(rt; narrow_pairs(rt.alloc())?);
+    Ok(())
+}
+
+#[test]
+fn tables_of_points(rt: HostRuntime) -> Result<(), Fail> {
+    assert!(rt; everywhere_and_in_products(rt.alloc(), FieldRow::Tables)?);
+    Ok(())
+}
+
+#[test]
+fn tables_of_three_coordinates(rt: HostRuntime) -> Result<(), Fail> {
+    assert!(rt; everywhere_and_in_products(rt.alloc(), FieldRow::ThreeCoordinates)?);
+    Ok(())
+}
+
+#[test]
+fn more_coordinates_than_bits(rt: HostRuntime) -> Result<(), Fail> {
+    assert!(rt; everywhere(rt.alloc(), Row::Field(FieldRow::ManyCoordinates))?);
+    Ok(())
+}
+
+#[test]
+fn tables_of_drawn_points(rt: HostRuntime) -> Result<(), Fail> {
+    for n in 0..8 {
+        assert!(rt; everywhere(rt.alloc(), Row::Field(FieldRow::DrawnTables(n)))?);
+    }
+    Ok(())
+}
+
+#[test]
+fn points_made_of_numbers(rt: HostRuntime) -> Result<(), Fail> {
+    assert!(rt; everywhere_and_in_products(rt.alloc(), FieldRow::MadePoints)?);
+    Ok(())
+}
+
+#[test]
+fn points_side_by_side(rt: HostRuntime) -> Result<(), Fail> {
+    assert!(rt; everywhere_and_in_products(rt.alloc(), FieldRow::SideBySide)?);
+    Ok(())
+}
+
+#[test]
+fn values(rt: HostRuntime) -> Result<(), Fail> {
+    assert!(rt; everywhere(rt.alloc(), Row::Values)?);
+    Ok(())
+}
+
+#[test]
+fn values_at_drawn_points(rt: HostRuntime) -> Result<(), Fail> {
+    for n in 0..6 {
+        assert!(rt; everywhere(rt.alloc(), Row::DrawnValues(n))?);
+    }
+    Ok(())
+}
+
+#[test]
+fn steps(rt: HostRuntime) -> Result<(), Fail> {
+    assert!(rt; everywhere(rt.alloc(), Row::Field(FieldRow::Steps))?);
+    Ok(())
+}
+
+#[test]
+fn steps_at_drawn_points(rt: HostRuntime) -> Result<(), Fail> {
+    for n in 0..6 {
+        assert!(rt; everywhere(rt.alloc(), Row::Field(FieldRow::DrawnSteps(n)))?);
+    }
+    Ok(())
+}
+
+#[test]
+fn batches_of_points(rt: HostRuntime) -> Result<(), Fail> {
+    assert!(rt; everywhere(rt.alloc(), Row::Batches)?);
+    Ok(())
+}
+
+#[test]
+fn batches_of_points_of_the_base(rt: HostRuntime) -> Result<(), Fail> {
+    assert!(rt; everywhere(rt.alloc(), Row::BaseBatches)?);
+    Ok(())
+}
+
+#[test]
+fn batches_of_no_points(rt: HostRuntime) -> Result<(), Fail> {
+    assert!(rt; everywhere(rt.alloc(), Row::NoPoints)?);
+    Ok(())
+}
+
+/// Whether batches of so many drawn variables, at each number of points, are the plain sums.
+fn drawn_batches(alloc: Global, n: usize) -> Result<bool, AllocError> {
+    for points in 0..6 {
+        if !everywhere(alloc, Row::DrawnBatches(n, points))?
+            || !everywhere(alloc, Row::DrawnBaseBatches(n, points))?
+        {
+            return Ok(false);
         }
     }
-    elements.len() == numbers.len()
+    Ok(true)
 }
 
-/// The weight of `x` at one of `width` points, whose coordinates lie side by side in rows. It is
-/// the product of the shares of the coordinates, the last of which reads the lowest bit. The points
-/// count from the last.
-fn plain_weight<R: PrimeCharacteristicRing>(rows: &[R], width: usize, point: usize, x: usize) -> R
-    requires { 0 < width }
-{
-    let mut bits = x;
-    let mut weight = R::ONE;
-    for (place, coordinate) in rows.iter().rev().enumerate() {
-        if place % width == point {
-            let at_zero = R::ONE - *coordinate;
-            weight = weight * if bits % 2 == 1 { *coordinate } else { at_zero };
-            bits /= 2;
-        }
+#[test]
+fn batches_of_drawn_points(rt: HostRuntime) -> Result<(), Fail> {
+    for n in 0..10 {
+        assert!(rt; drawn_batches(rt.alloc(), n)?, "{n} variables");
     }
-    weight
-}
-
-/// Calls over a field and an extension of it.
-fn calls<F: Field + Drop, EF: ExtensionField<F> + Drop>(
-    rt: &impl Abort,
-    alloc: Global,
-) -> Result<(), Fail> {
-    points::parts::<EF>(rt, alloc)?;
-    points::parts_of_a_view::<EF>(rt, alloc)?;
-    points::growth::<EF>(rt, alloc)?;
-    tables::rows::<EF>(rt, alloc)?;
-    tables::three_coordinates::<EF>(rt, alloc)?;
-    evaluations::points::<EF>(rt, alloc)?;
-    evaluations::side_by_side::<EF>(rt, alloc)?;
-    evaluations::rows::<F, EF>(rt, alloc)?;
-    evaluations::steps::<EF>(rt, alloc)?;
-    batches::rows::<F, EF>(rt, alloc)?;
-    batches::rows_of_the_base::<F, EF>(rt, alloc)?;
-    batches::without_points::<F, EF>(rt, alloc)
-}
-
-/// Calls at drawn points of a field and of an extension of it.
-fn draws<F: Field + Sample + Drop, EF: ExtensionField<F> + Sample + Drop>(
-    rt: &impl Abort,
-    alloc: Global,
-) -> Result<(), Fail> {
-    points::draws::<EF>(rt, alloc)?;
-    tables::draws::<EF>(rt, alloc)?;
-    evaluations::draws::<F, EF>(rt, alloc)?;
-    batches::draws::<F, EF>(rt, alloc)
-}
-
-#[test]
-fn residues(rt: HostRuntime) -> Result<(), Fail> {
-    calls::<BabyBear<4>, BabyBear<4>>(&rt, rt.alloc())?;
-    draws::<BabyBear<4>, BabyBear<4>>(&rt, rt.alloc())
-}
-
-#[test]
-fn residues_at_another_width(rt: HostRuntime) -> Result<(), Fail> {
-    calls::<BabyBear<8>, BabyBear<8>>(&rt, rt.alloc())
-}
-
-#[test]
-fn words(rt: HostRuntime) -> Result<(), Fail> {
-    calls::<WrappingU64<4>, WrappingU64<4>>(&rt, rt.alloc())?;
-    draws::<WrappingU64<4>, WrappingU64<4>>(&rt, rt.alloc())
-}
-
-#[test]
-fn quartics(rt: HostRuntime) -> Result<(), Fail> {
-    calls::<QuarticExtension<BabyBear<4>>, QuarticExtension<BabyBear<4>>>(&rt, rt.alloc())
-}
-
-#[test]
-fn quartics_over_residues(rt: HostRuntime) -> Result<(), Fail> {
-    calls::<BabyBear<4>, QuarticExtension<BabyBear<4>>>(&rt, rt.alloc())?;
-    draws::<BabyBear<4>, QuarticExtension<BabyBear<4>>>(&rt, rt.alloc())
-}
-
-#[test]
-fn drawn_products(rt: HostRuntime) -> Result<(), Fail> {
-    let mut rng = Pcg32::seed_from_u64(17);
-    let point: Point<ProductAlgebra<BabyBear<2>, 2>> = Point::rand(rt.alloc(), &mut rng, 8)?;
-    let other = Point::rand(rt.alloc(), &mut rng, 8)?;
-    assert!(rt; point.num_variables() == 8);
-    assert!(rt; point != other);
     Ok(())
 }

@@ -1,122 +1,138 @@
-ghost use Rattle.std.specs.Prelude.{◌<◌};
+//! Points made of numbers, and values at a point that need no table.
+ghost use Rattle.std.specs.Prelude.{◌≡◌, ◌<◌, ◌^◌, IfOk, length, vec_len};
 
-use super::{are, element, elements, plain_weight};
 use mlu_point::point::Point;
-use mlu_ring::{ExtensionField, Field, Sample};
+use mlu_ring::{Additive, Algebra, ExtensionField, Field, PrimeCharacteristicRing, Sample};
+use mlu_test_support::draws::drawn;
+use mlu_test_support::numbers::{are, element, elements};
+use mlu_test_support::plain::{dot, images, last, table, value, weight};
 use rand_core::SeedableRng;
 use rand_pcg::Pcg32;
-use std::alloc::Global;
-use std::process::Abort;
-use std::test::Fail;
+use std::alloc::{AllocError, Global};
 
-pub fn points<F: Field + Drop>(rt: &impl Abort, alloc: Global) -> Result<(), Fail> {
-    let vertex: Point<F> = Point::hypercube(alloc, 5, 3)?;
-    assert!(rt; are(vertex.as_slice(), &[1, 0, 1]));
-    let long: Point<F> = Point::hypercube(alloc, usize::MAX, 66)?;
-    assert!(rt; long.equality_at_vertex(usize::MAX) == Some(F::ONE));
-    let powers: Point<F> = Point::expand_from_univariate(alloc, element(3), 3)?;
-    assert!(rt; are(powers.as_slice(), &[81, 9, 3]));
-    let none: Point<F> = Point::expand_from_univariate(alloc, element(3), 0)?;
-    assert!(rt; none == Point::empty(alloc));
-    Ok(())
+/// A vertex, and the powers of an element.
+pub fn made_points<R: Field>(alloc: Global) -> Result<bool, AllocError> {
+    let vertex = are(Point::<R>::hypercube(alloc, 5, 3)?.as_slice(), &[1, 0, 1]);
+    let long = Point::<R>::hypercube(alloc, usize::MAX, 66)?.equality_at_vertex(usize::MAX);
+    let three = element::<R>(3);
+    let powers = are(
+        Point::expand_from_univariate(alloc, three, 3)?.as_slice(),
+        &[81, 9, 3],
+    );
+    let none = Point::expand_from_univariate(alloc, three, 0)? == Point::empty(alloc);
+    Ok(vertex && long == Some(R::ONE) && powers && none)
 }
 
-pub fn side_by_side<F: Field + Drop>(rt: &impl Abort, alloc: Global) -> Result<(), Fail> {
-    let points: [Point<F>; 2] = [
+/// The matrix of two points, and of the two with their coordinates from last to first.
+pub fn side_by_side<R: Field>(alloc: Global) -> Result<bool, AllocError> {
+    let points: [Point<R>; 2] = [
         Point::new(elements(alloc, &[1, 2])?),
         Point::new(elements(alloc, &[3, 4])?),
     ];
     let rows = Point::transpose(alloc, points.as_slice(), false)?;
-    assert!(rt; are(rows.values.as_slice(), &[1, 3, 2, 4]));
-    assert!(rt; rows.width() == 2);
+    let straight = are(rows.values.as_slice(), &[1, 3, 2, 4]) && rows.width() == 2;
     let reversed = Point::transpose(alloc, points.as_slice(), true)?;
-    assert!(rt; are(reversed.values.as_slice(), &[2, 4, 1, 3]));
-    Ok(())
+    Ok(straight && are(reversed.values.as_slice(), &[2, 4, 1, 3]))
 }
 
-pub fn rows<F: Field + Drop, EF: ExtensionField<F> + Drop>(
-    rt: &impl Abort,
-    alloc: Global,
-) -> Result<(), Fail> {
+/// The value of an equality table, and of a table of powers.
+pub fn values<F: Field, EF: ExtensionField<F>>(alloc: Global) -> Result<bool, AllocError> {
     let base: Vec<F> = elements(alloc, &[2])?;
-    let three: Vec<EF> = elements(alloc, &[3])?;
-    assert!(rt; Point::eval_eq::<EF>(base.as_slice(), three.as_slice()) == element(8));
+    let point: Vec<EF> = elements(alloc, &[3])?;
+    let equal = Point::eval_eq::<EF>(base.as_slice(), point.as_slice()) == element(8);
     let point: Vec<EF> = elements(alloc, &[5, 7])?;
-    assert!(rt; Point::eval_select::<EF>(element::<F>(3), point.as_slice()) == element(615));
-    Ok(())
+    let selected = Point::eval_select::<EF>(element::<F>(3), point.as_slice());
+    Ok(equal && selected == element(615))
 }
 
-pub fn steps<F: Field>(rt: &impl Abort, alloc: Global) -> Result<(), Fail> {
-    let point: Vec<F> = elements(alloc, &[2, 3])?;
-    let row: Vec<F> = elements(alloc, &[5, 7])?;
-    let parts = Point::eval_next(point.as_slice(), row.as_slice());
-    assert!(rt; parts == (element(144), element(-106), element(210)));
-    let (zero, one) = (F::ZERO, F::ONE);
-    let none: Vec<F> = elements(alloc, &[])?;
-    assert!(rt; Point::eval_next(none.as_slice(), none.as_slice()) == (one, zero, one));
-    let first: Vec<F> = elements(alloc, &[0])?;
-    let second: Vec<F> = elements(alloc, &[1])?;
-    let step = Point::eval_next(first.as_slice(), second.as_slice());
-    assert!(rt; step == (zero, one, zero));
-    Ok(())
+/// The parts of the step to the next row at two coordinates, at none and at one.
+pub fn steps<R: Field>(alloc: Global) -> Result<bool, AllocError> {
+    let point: Vec<R> = elements(alloc, &[2, 3])?;
+    let row: Vec<R> = elements(alloc, &[5, 7])?;
+    let two = Point::eval_next(point.as_slice(), row.as_slice());
+    let none = Point::<R>::eval_next(&[], &[]);
+    let zeros: Vec<R> = elements(alloc, &[0])?;
+    let ones: Vec<R> = elements(alloc, &[1])?;
+    let one = Point::eval_next(zeros.as_slice(), ones.as_slice());
+    Ok(
+        two == (element(144), element(-106), element(210))
+            && none == (R::ONE, R::ZERO, R::ONE)
+            && one == (R::ZERO, R::ONE, R::ZERO),
+    )
 }
 
-pub fn draws<F: Field + Sample + Drop, EF: ExtensionField<F> + Sample + Drop>(
-    rt: &impl Abort,
+/// The parts of a step: the product of the weights at the ends, the sum over all rows but the last,
+/// and the product of the last weights.
+fn plain_steps<R: PrimeCharacteristicRing>(
     alloc: Global,
-) -> Result<(), Fail> {
+    point: &[R],
+    row: &[R],
+) -> Result<(R, R, R), AllocError>
+    requires point { length point.now < 6 }
+    requires row { length row.now < 6 }
+{
+    let from = table(alloc, point, R::ONE)?;
+    let to = table(alloc, row, R::ONE)?;
+    let leaves = last(from.as_slice()) * weight(row, 0);
+    let steps = dot(from.as_slice(), &to[1..]);
+    let stays = last(from.as_slice()) * last(to.as_slice());
+    Ok((leaves, steps, stays))
+}
+
+/// The parts of a step at drawn points.
+pub fn drawn_steps<R: Field + Sample>(alloc: Global, n: usize) -> Result<bool, AllocError> {
+    if n >= 6 {
+        return Ok(false);
+    }
     let mut rng = Pcg32::seed_from_u64(11);
-    for n in 0..6 {
-        drawn_values::<F, EF>(rt, alloc, &mut rng, n)?;
-        drawn_steps::<EF>(rt, alloc, &mut rng, n)?;
-    }
-    Ok(())
+    let coordinates: Vec<R> = drawn(alloc, &mut rng, n + n)?;
+    let (point, row) = coordinates.as_slice().split_at(n);
+    Ok(Point::eval_next(point, row) == plain_steps(alloc, point, row)?)
 }
 
-/// The parts of a step against the sum over all rows but the last, and the products at the ends.
-fn drawn_steps<R: Field + Sample + Drop>(
-    rt: &impl Abort,
+/// The value at the point of a table of base elements.
+fn value_at<F: Additive, EF: Algebra<F>>(
     alloc: Global,
-    rng: &mut Pcg32,
-    n: usize,
-) -> Result<(), Fail>
-    requires { n < 6 }
-{
-    let point: Point<R> = Point::rand(alloc, rng, n)?;
-    let row: Point<R> = Point::rand(alloc, rng, n)?;
-    let (p, r) = (point.as_slice(), row.as_slice());
-    let top = (1 << n) - 1;
-    let mut steps = R::ZERO;
-    for x in 0..top {
-        steps = steps + plain_weight(p, 1, 0, x) * plain_weight(r, 1, 0, x + 1);
-    }
-    let leaves = plain_weight(p, 1, 0, top) * plain_weight(r, 1, 0, 0);
-    let stays = plain_weight(p, 1, 0, top) * plain_weight(r, 1, 0, top);
-    assert!(rt; Point::eval_next(p, r) == (leaves, steps, stays));
-    Ok(())
+    entries: &[F],
+    point: &[EF],
+) -> Result<EF, AllocError> {
+    let images: Vec<EF> = images(alloc, entries)?;
+    Ok(value(images.as_slice(), point))
 }
 
-fn drawn_values<F: Field + Sample + Drop, EF: ExtensionField<F> + Sample + Drop>(
-    rt: &impl Abort,
+/// All powers of an element below one.
+fn powers<R: PrimeCharacteristicRing>(
     alloc: Global,
-    rng: &mut Pcg32,
-    n: usize,
-) -> Result<(), Fail>
-    requires { n < 6 }
-{
-    let p: Point<F> = Point::rand(alloc, rng, n)?;
-    let q: Point<EF> = Point::rand(alloc, rng, n)?;
-    let var = F::sample(rng);
-    let mut power = F::ONE;
-    let mut equal = EF::ZERO;
-    let mut selected = EF::ZERO;
-    for x in 0..1 << n {
-        let weight = plain_weight(q.as_slice(), 1, 0, x);
-        equal = equal + weight.scale(plain_weight(p.as_slice(), 1, 0, x));
-        selected = selected + weight.scale(power);
-        power = power * var;
+    x: R,
+    count: usize,
+) -> Result<Vec<R>, AllocError> {
+    let mut powers = Vec::with_capacity(alloc, count)?;
+    let mut power = R::ONE;
+    for _ in 0..count {
+        powers.push(power)?;
+        power = power * x;
     }
-    assert!(rt; Point::eval_eq(p.as_slice(), q.as_slice()) == equal);
-    assert!(rt; Point::eval_select(var, q.as_slice()) == selected);
-    Ok(())
+    Ok(powers)
+}
+
+/// The values of a drawn equality table and of a table of powers at a drawn point.
+pub fn drawn_values<F: Field + Sample, EF: ExtensionField<F> + Sample>(
+    alloc: Global,
+    n: usize,
+) -> Result<bool, AllocError> {
+    if n >= 6 {
+        return Ok(false);
+    }
+    let mut rng = Pcg32::seed_from_u64(11);
+    let p: Vec<F> = drawn(alloc, &mut rng, n)?;
+    let q: Vec<EF> = drawn(alloc, &mut rng, n)?;
+    let weights = table(alloc, p.as_slice(), F::ONE)?;
+    let equal = value_at(alloc, weights.as_slice(), q.as_slice())?;
+    let x = F::sample(&mut rng);
+    let powers = powers(alloc, x, 1 << n)?;
+    let selected = value_at(alloc, powers.as_slice(), q.as_slice())?;
+    Ok(
+        Point::eval_eq(p.as_slice(), q.as_slice()) == equal
+            && Point::eval_select(x, q.as_slice()) == selected,
+    )
 }

@@ -1,30 +1,28 @@
+//! Parts, copies, growth and draws of points and views.
 ghost use Rattle.std.specs.Prelude.{◌≡◌, length};
 
-use super::{are, element, elements};
 use mlu_point::point::{Point, PointView};
-use mlu_ring::{Field, Sample};
+use mlu_ring::{Additive, Sample};
+use mlu_test_support::numbers::{are, element, elements};
 use rand_core::SeedableRng;
 use rand_pcg::Pcg32;
-use std::alloc::Global;
-use std::process::Abort;
-use std::test::Fail;
+use std::alloc::{AllocError, Global};
 
-pub fn parts<F: Field + Drop>(rt: &impl Abort, alloc: Global) -> Result<(), Fail> {
-    let point: Point<F> = Point::new(elements(alloc, &[2, 3, 5])?);
-    let middle = point.get_subpoint_over_range(alloc, 1..2)?;
-    assert!(rt; are(middle.as_slice(), &[3]));
-    let nothing = point.get_subpoint_over_range(alloc, 3..3)?;
-    assert!(rt; nothing == Point::empty(alloc));
+/// The parts of a point of three coordinates.
+pub fn parts<R: Additive>(alloc: Global) -> Result<bool, AllocError> {
+    let point: Point<R> = Point::new(elements(alloc, &[2, 3, 5])?);
+    let middle = are(
+        point.get_subpoint_over_range(alloc, 1..2)?.as_slice(),
+        &[3],
+    );
+    let nothing = point.get_subpoint_over_range(alloc, 3..3)? == Point::empty(alloc);
+    let backwards = are(point.reversed(alloc)?.as_slice(), &[5, 3, 2]);
     let (first, rest) = point.split_at(alloc, 0)?;
-    assert!(rt; first == nothing);
-    assert!(rt; rest == point);
-    let backwards = point.reversed(alloc)?;
-    assert!(rt; are(backwards.as_slice(), &[5, 3, 2]));
-    Ok(())
+    Ok(middle && nothing && backwards && first == Point::empty(alloc) && rest == point)
 }
 
 /// The slice of a view that is gone when it is used.
-fn slice_of<F: Field>(coordinates: &[F]) -> &[F]
+fn slice_of<R: Additive>(coordinates: &[R]) -> &[R]
     ensures { length result.now ≡ length coordinates.now }
 {
     let view = PointView::new(coordinates);
@@ -32,46 +30,43 @@ fn slice_of<F: Field>(coordinates: &[F]) -> &[F]
     copy.into_slice()
 }
 
-pub fn parts_of_a_view<F: Field + Drop>(rt: &impl Abort, alloc: Global) -> Result<(), Fail> {
-    let coordinates: Vec<F> = elements(alloc, &[2, 3, 5])?;
+/// The sizes, coordinates and parts of a view of three coordinates.
+pub fn parts_of_a_view<R: Additive>(alloc: Global) -> Result<bool, AllocError> {
+    let coordinates: Vec<R> = elements(alloc, &[2, 3, 5])?;
     let view = PointView::new(slice_of(coordinates.as_slice()));
-    assert!(rt; are(view.as_slice(), &[2, 3, 5]));
-    assert!(rt; view.as_view() == view);
-    assert!(rt; view != PointView::default());
-    assert!(rt; view.num_variables() == 3);
-    assert!(rt; view[2] == element(5));
-    assert!(rt; view.iter().count() == 3);
-    assert!(rt; (&view).into_iter().count() == 3);
-    let middle = view.get_subpoint_over_range(alloc, 1..3)?;
+    let whole = are(view.as_slice(), &[2, 3, 5])
+        && view.as_view() == view
+        && view != PointView::default()
+        && view.num_variables() == 3;
+    let counted = view[2] == element(5)
+        && view.iter().count() == 3
+        && (&view).into_iter().count() == 3;
+    let backwards = are(view.reversed(alloc)?.as_slice(), &[5, 3, 2]);
     let (first, rest) = view.split_at(alloc, 1)?;
-    assert!(rt; are(first.as_slice(), &[2]));
-    assert!(rt; rest == middle);
-    let backwards = view.reversed(alloc)?;
-    assert!(rt; are(backwards.as_slice(), &[5, 3, 2]));
-    Ok(())
+    let halves = are(first.as_slice(), &[2])
+        && rest == view.get_subpoint_over_range(alloc, 1..3)?;
+    Ok(whole && counted && backwards && halves)
 }
 
-pub fn growth<F: Field + Drop>(rt: &impl Abort, alloc: Global) -> Result<(), Fail> {
-    let mut point: Point<F> = Point::new(elements(alloc, &[2, 3])?);
+/// A point that grows, and its copy, which does not.
+pub fn growth<R: Additive>(alloc: Global) -> Result<bool, AllocError> {
+    let mut point: Point<R> = Point::new(elements(alloc, &[2, 3])?);
     let before = point.try_clone(alloc)?;
-    assert!(rt; before == point);
-    let more: Vec<F> = elements(alloc, &[5])?;
+    let same = before == point;
+    let more: Vec<R> = elements(alloc, &[5])?;
     point.extend(PointView::new(more.as_slice()))?;
-    assert!(rt; are(point.as_slice(), &[2, 3, 5]));
-    assert!(rt; point.as_view() != before.as_view());
-    assert!(rt; point[2] == element(5));
-    assert!(rt; before.num_variables() == 2);
-    assert!(rt; before.iter().count() == 2);
-    assert!(rt; (&before).into_iter().count() == 2);
-    assert!(rt; point.into_iter().count() == 3);
-    Ok(())
+    let grown = are(point.as_slice(), &[2, 3, 5]) && point.as_view() != before.as_view();
+    let last = point[2] == element(5);
+    let kept = before.num_variables() == 2
+        && before.iter().count() == 2
+        && (&before).into_iter().count() == 2;
+    Ok(same && grown && last && kept && point.into_iter().count() == 3)
 }
 
-pub fn draws<F: Field + Sample + Drop>(rt: &impl Abort, alloc: Global) -> Result<(), Fail> {
+/// Two draws, which differ.
+pub fn draws<T: Sample + Copy + Eq>(alloc: Global) -> Result<bool, AllocError> {
     let mut rng = Pcg32::seed_from_u64(1);
-    let first: Point<F> = Point::rand(alloc, &mut rng, 8)?;
-    let second: Point<F> = Point::rand(alloc, &mut rng, 8)?;
-    assert!(rt; first.num_variables() == 8);
-    assert!(rt; first != second);
-    Ok(())
+    let first: Point<T> = Point::rand(alloc, &mut rng, 8)?;
+    let second: Point<T> = Point::rand(alloc, &mut rng, 8)?;
+    Ok(first.num_variables() == 8 && first != second)
 }

@@ -1,74 +1,80 @@
-ghost use Rattle.std.specs.Prelude.{◌<◌};
+//! The weights of points.
+ghost use Rattle.std.specs.Prelude.{◌≡◌, ◌<◌};
 
-use super::{are, element, elements, plain_weight};
-use mlu_lanes::BabyBear;
 use mlu_point::point::{Point, PointView};
-use mlu_ring::{Field, Sample};
+use mlu_ring::{Additive, Field, PrimeCharacteristicRing, Sample};
+use mlu_test_support::draws::drawn;
+use mlu_test_support::numbers::{are, element, elements};
+use mlu_test_support::plain::table;
 use rand_core::SeedableRng;
 use rand_pcg::Pcg32;
-use std::alloc::Global;
-use std::process::Abort;
-use std::test::Fail;
+use std::alloc::{AllocError, Global};
 
-pub fn rows<F: Field + Drop>(rt: &impl Abort, alloc: Global) -> Result<(), Fail> {
-    let none: Point<F> = Point::empty(alloc);
-    assert!(rt; are(&none.equality_weights_msb(alloc)?, &[1]));
-    assert!(rt; are(&none.equality_weights_lsb(alloc)?, &[1]));
-    assert!(rt; none.equality_at_vertex(0) == Some(F::ONE));
-    assert!(rt; none.equality_at_vertex(1) == None);
-    let coordinates: Vec<F> = elements(alloc, &[2, 3])?;
+/// The tables of no coordinate and of two.
+pub fn rows<R: Field>(alloc: Global) -> Result<bool, AllocError> {
+    let none: Point<R> = Point::empty(alloc);
+    let one = are(&none.equality_weights_msb(alloc)?, &[1])
+        && are(&none.equality_weights_lsb(alloc)?, &[1])
+        && none.equality_at_vertex(0) == Some(R::ONE)
+        && none.equality_at_vertex(1) == None;
+    let coordinates: Vec<R> = elements(alloc, &[2, 3])?;
     let two = PointView::new(coordinates.as_slice());
-    assert!(rt; are(&two.equality_weights_msb(alloc)?, &[2, -3, -4, 6]));
-    assert!(rt; are(&two.equality_weights_lsb(alloc)?, &[2, -4, -3, 6]));
-    assert!(rt; two.equality_at_vertex(3) == Some(element(6)));
-    assert!(rt; two.equality_at_vertex(4) == None);
-    Ok(())
+    let four = are(&two.equality_weights_msb(alloc)?, &[2, -3, -4, 6])
+        && are(&two.equality_weights_lsb(alloc)?, &[2, -4, -3, 6])
+        && two.equality_at_vertex(3) == Some(element(6))
+        && two.equality_at_vertex(4) == None;
+    Ok(one && four)
 }
 
-pub fn three_coordinates<F: Field + Drop>(rt: &impl Abort, alloc: Global) -> Result<(), Fail> {
-    let point: Point<F> = Point::new(elements(alloc, &[2, 3, 5])?);
-    let msb = point.equality_weights_msb(alloc)?;
-    assert!(rt; are(msb.as_slice(), &[-8, 10, 12, -15, 16, -20, -24, 30]));
-    let lsb = point.equality_weights_lsb(alloc)?;
-    assert!(rt; are(lsb.as_slice(), &[-8, 16, 12, -24, 10, -20, -15, 30]));
-    Ok(())
-}
-
-#[test]
-fn more_coordinates_than_bits(rt: HostRuntime) {
-    let many = [BabyBear::<4>::from_u32(2); 67];
-    assert_eq!(rt;
-        PointView::new(&many).equality_at_vertex(usize::MAX),
-        Some(BabyBear::from_u32(841097758))
+/// The tables of three coordinates.
+pub fn three_coordinates<R: Field>(alloc: Global) -> Result<bool, AllocError> {
+    let point: Point<R> = Point::new(elements(alloc, &[2, 3, 5])?);
+    let msb = are(
+        &point.equality_weights_msb(alloc)?,
+        &[-8, 10, 12, -15, 16, -20, -24, 30],
     );
+    let lsb = are(
+        &point.equality_weights_lsb(alloc)?,
+        &[-8, 16, 12, -24, 10, -20, -15, 30],
+    );
+    Ok(msb && lsb)
 }
 
-pub fn draws<F: Field + Sample + Drop>(rt: &impl Abort, alloc: Global) -> Result<(), Fail> {
+/// Two to a power.
+fn power_of_two<R: Additive>(exponent: u32) -> R {
+    let mut power = R::ONE;
+    for _ in 0..exponent {
+        power = power.double();
+    }
+    power
+}
+
+/// 67 coordinates 2 at the vertex of 64 ones, behind three zeros.
+pub fn many_coordinates<R: Field>(alloc: Global) -> Result<bool, AllocError> {
+    let point: Point<R> = Point::new(elements(alloc, &[2; 67])?);
+    Ok(point.equality_at_vertex(usize::MAX) == Some(-power_of_two::<R>(64)))
+}
+
+/// Whether these are the point's weights of the vertices, in order.
+fn are_weights<R: Field>(point: &Point<R>, weights: &[R]) -> bool {
+    for (x, weight) in weights.iter().enumerate() {
+        if point.equality_at_vertex(x) != Some(*weight) {
+            return false;
+        }
+    }
+    true
+}
+
+/// The tables of a drawn point.
+pub fn draws<R: Field + Sample>(alloc: Global, n: usize) -> Result<bool, AllocError> {
+    if n >= 8 {
+        return Ok(false);
+    }
     let mut rng = Pcg32::seed_from_u64(7);
-    for n in 0..8 {
-        drawn_table::<F>(rt, alloc, &mut rng, n)?;
-    }
-    Ok(())
-}
-
-fn drawn_table<F: Field + Sample + Drop>(
-    rt: &impl Abort,
-    alloc: Global,
-    rng: &mut Pcg32,
-    n: usize,
-) -> Result<(), Fail>
-    requires { n < 8 }
-{
-    let point: Point<F> = Point::rand(alloc, rng, n)?;
+    let point: Point<R> = Point::new(drawn(alloc, &mut rng, n)?);
+    let weights = table(alloc, point.as_slice(), R::ONE)?;
+    let msb = point.equality_weights_msb(alloc)? == weights;
     let reversed = point.reversed(alloc)?;
-    assert!(rt; reversed.num_variables() == n);
-    let msb = point.equality_weights_msb(alloc)?;
-    let lsb = reversed.equality_weights_lsb(alloc)?;
-    assert!(rt; msb.len() == 1 << n);
-    assert!(rt; msb == lsb);
-    for (x, weight) in msb.iter().enumerate() {
-        assert!(rt; *weight == plain_weight(point.as_slice(), 1, 0, x));
-        assert!(rt; point.equality_at_vertex(x) == Some(*weight));
-    }
-    Ok(())
+    let lsb = reversed.num_variables() == n && reversed.equality_weights_lsb(alloc)? == weights;
+    Ok(msb && lsb && are_weights(&point, weights.as_slice()))
 }
