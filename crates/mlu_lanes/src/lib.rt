@@ -16,6 +16,3 @@ mod wrapping;
 pub use baby_bear::{BabyBear, MODULUS};
 pub use lanes::{LaneWidth, Lanes};
 pub use wrapping::WrappingU64;
-
-#[cfg(test)]
-mod tests;

@@ -1,10 +1,11 @@
-//! What the crates of tests share: drawn elements, the images of whole numbers, lists in lanes, and
-//! the plain sums.
+//! What the crates of tests share: drawn elements, the images of whole numbers, lists in lanes,
+//! calls through each bound, and the plain sums.
 //!
 //! Each sum goes over every index by itself, by the definition and not by any route of the library,
 //! and asks the least bound that it can be said over.
 #![tactic(auto)]
 
+pub mod bounds;
 pub mod draws;
 pub mod lanes;
 pub mod numbers;

@@ -1,7 +1,6 @@
-ghost use Rattle.std.specs.Prelude.{◌≡◌, length};
-
-use crate::{BabyBear, LaneWidth, Lanes, WrappingU64};
-use mlu_ring::{Additive, Field, PrimeCharacteristicRing};
+//! Worked values by the operators of each ring.
+use mlu_lanes::{BabyBear, Lanes, WrappingU64};
+use mlu_ring::{Additive, PrimeCharacteristicRing};
 
 #[test]
 fn reduces(rt: HostRuntime) {
@@ -33,38 +32,6 @@ fn wraps_at_64_bits(rt: HostRuntime) {
     assert_eq!(rt; (half + half).value(), 0);
     assert_eq!(rt; (-WrappingU64::<4>::TWO).value(), u64::MAX - 1);
     assert_eq!(rt; (WrappingU64::<4>::TWO - half).value(), (1 << 63) + 2);
-}
-
-fn four_squares<const W: usize>(values: &[Lanes<BabyBear<W>, W>]) -> [BabyBear<W>; W]
-where
-    Lanes<BabyBear<W>, W>: LaneWidth<W>,
-    requires { length values.now ≡ 4 }
-{
-    BabyBear::dot4(values, values).to_array()
-}
-
-#[test]
-fn four_products_at_each_width(rt: HostRuntime) {
-    assert_eq!(rt;
-        four_squares(&[Lanes::<BabyBear<1>, 1>::NEG_ONE; 4]),
-        [BabyBear::from_u32(4); 1]
-    );
-    assert_eq!(rt;
-        four_squares(&[Lanes::<BabyBear<2>, 2>::NEG_ONE; 4]),
-        [BabyBear::from_u32(4); 2]
-    );
-    assert_eq!(rt;
-        four_squares(&[Lanes::<BabyBear<4>, 4>::NEG_ONE; 4]),
-        [BabyBear::from_u32(4); 4]
-    );
-    assert_eq!(rt;
-        four_squares(&[Lanes::<BabyBear<8>, 8>::NEG_ONE; 4]),
-        [BabyBear::from_u32(4); 8]
-    );
-    assert_eq!(rt;
-        four_squares(&[Lanes::<BabyBear<16>, 16>::NEG_ONE; 4]),
-        [BabyBear::from_u32(4); 16]
-    );
 }
 
 #[test]
