@@ -3,12 +3,16 @@ mod bounds;
 mod products;
 mod rows;
 
-use mlu_ext::QuarticExtension;
+use mlu_ext::{ProductAlgebra, QuarticExtension};
 use mlu_lanes::BabyBear;
 
 type Bear = BabyBear<4>;
 
 type Quartic = QuarticExtension<Bear>;
+
+type Half = BabyBear<2>;
+
+type Pair = ProductAlgebra<Half, 2>;
 
 fn quartic(c0: u32, c1: u32, c2: u32, c3: u32) -> Quartic {
     QuarticExtension::new(
@@ -17,4 +21,8 @@ fn quartic(c0: u32, c1: u32, c2: u32, c3: u32) -> Quartic {
         Bear::from_u32(c2),
         Bear::from_u32(c3),
     )
+}
+
+fn pair(first: u32, second: u32) -> Pair {
+    ProductAlgebra::from_array([Half::from_u32(first), Half::from_u32(second)])
 }

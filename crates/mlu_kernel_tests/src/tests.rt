@@ -157,7 +157,10 @@ fn four_rows_added<F: Field, EF: ExtensionField<F>>(alloc: Global) -> Result<boo
     }
     let out = packed::<F, EF>(alloc, &elements(alloc, &[1, 2, 3, 4])?, 1)?;
     let eq1 = packed::<F, EF>(alloc, &elements(alloc, &[1, 1, 1, 1])?, 1)?;
-    let chunk = elements(alloc, &[0, 1, 2, 3, 4, 5, 6, 7, 8, 9, 10, 11, 12, 13, 14, 15])?;
+    let chunk = elements(
+        alloc,
+        &[0, 1, 2, 3, 4, 5, 6, 7, 8, 9, 10, 11, 12, 13, 14, 15],
+    )?;
     let expected = packed::<F, EF>(alloc, &elements(alloc, &[49, 58, 67, 76])?, 1)?;
     rows_added_are::<F, EF>(alloc, &out, &eq1, &chunk, EF::TWO, &expected)
 }

@@ -1,158 +1,326 @@
-ghost use Rattle.std.specs.Prelude.{◌≡◌, ◌<◌, length};
-
-use super::{Bear, Quartic, quartic};
-use mlu_ext::{ProductAlgebra, QuarticExtension};
-use mlu_lanes::{BabyBear, Lanes};
+//! Calls of each item through its bound: a row of numbers, and one function for each ring.
+use super::{Bear, Half, Pair, Quartic, pair, quartic};
+use mlu_ext::ProductAlgebra;
 use mlu_ring::{
-    Additive, Algebra, ExtensionField, Field, Lanewise, MapFrom, PackedFieldExtension, PackedValue,
-    PrimeCharacteristicRing, RingMapFrom, Sample, SelfAlgebra,
+    Additive, Algebra, ExtensionField, Field, PackedFieldExtension, PackedValue, RingMapFrom,
+    SelfAlgebra,
 };
-use rand::RngExt;
+use mlu_test_support::bounds::{
+    doubles, doubles_and_adds, doubles_lanes, filled, four_times, gives_zeros, mapped,
+    packed_products, packs_coefficients, products, ring_mapped, scaled, scaled_by_itself,
+    sum_of_lanes, sums,
+};
+use mlu_test_support::draws::drawn;
+use mlu_test_support::numbers::elements;
 use rand_pcg::Pcg32;
 use std::alloc::{AllocError, Global};
 use std::test::Fail;
 
-type PackedQuartic = QuarticExtension<Lanes<Bear, 4>>;
-
-type Half = BabyBear<2>;
-
-type Pair = ProductAlgebra<Half, 2>;
-
-type PackedPair = ProductAlgebra<Lanes<Half, 2>, 2>;
-
-fn pair(first: u32, second: u32) -> Pair {
-    ProductAlgebra::from_array([Half::from_u32(first), Half::from_u32(second)])
+/// A call of a ring, with what it is given and what it is to answer.
+#[derive(Drop)]
+pub enum RingRow<R> {
+    Sums(R, R, R),
+    Products(R, R, R),
+    FourProducts(R, R, R),
+    Scaled(R, R, R),
+    ScaledByItself(R, R, R),
+    Zeros,
+    Lanes(R, R, R),
+    PackedProducts(R, R, R),
+    Bytes(usize),
 }
 
-/// 2 (a + b) + b + 1
-fn sums<R: Additive>(a: R, b: R) -> R {
-    (a + b).double() - (-b) + R::ONE - R::ZERO
+/// Whether the row holds.
+fn ring_holds<R: Field + SelfAlgebra>(alloc: Global, row: RingRow<R>) -> Result<bool, AllocError> {
+    match row {
+        RingRow::Sums(a, b, answer) => Ok(sums(a, b) == answer),
+        RingRow::Products(a, b, answer) => Ok(products(a, b) == answer),
+        RingRow::FourProducts(a, b, answer) => Ok(four_times(a, b) == answer),
+        RingRow::Scaled(a, b, answer) => Ok(scaled::<R, R>(a, b) == answer),
+        RingRow::ScaledByItself(a, b, answer) => Ok(scaled_by_itself(a, b) == answer),
+        RingRow::Zeros => gives_zeros::<R>(alloc),
+        RingRow::Lanes(a, b, answer) => Ok(doubles_and_adds(a, b, answer)),
+        RingRow::PackedProducts(a, b, answer) => multiplies_lanes(alloc, a, b, answer),
+        RingRow::Bytes(bytes) => Ok(R::bytes() == bytes),
+    }
 }
 
-/// 2 (a b)^2
-fn products<R: PrimeCharacteristicRing>(a: R, b: R) -> R {
-    (a * b).square() * R::TWO + R::NEG_ONE + R::from_bool(true) - R::from_bool(false)
+/// A call of an extension, with what it is given and what it is to answer.
+#[derive(Drop)]
+pub enum Row<F, EF> {
+    Scaled(EF, F, EF),
+    Doubled(F, F),
+    DoubledLanes(EF, EF),
+    LanesInOrder(EF, EF, EF),
+    PackedCoefficients(F),
+    PackedScale,
+    Counted(EF, EF),
 }
 
-/// 4 a b
-fn four_times<R: PrimeCharacteristicRing>(a: R, b: R) -> R {
-    R::four_products(&(a, a, a, a), &(b, b, b, b))
+/// Whether the row holds.
+pub fn holds<F: Field, EF: ExtensionField<F>>(
+    alloc: Global,
+    row: Row<F, EF>,
+) -> Result<bool, AllocError> {
+    match row {
+        Row::Scaled(a, b, answer) => Ok(scaled::<F, EF>(a, b) == answer),
+        Row::Doubled(c, twice) => Ok(doubles::<F, EF>(c, twice)),
+        Row::DoubledLanes(a, twice) => doubles_lanes::<F, EF>(alloc, a, twice),
+        Row::LanesInOrder(first, second, sum) => adds_lanes::<F, EF>(alloc, first, second, sum),
+        Row::PackedCoefficients(c) => Ok(packs_coefficients::<F, EF>(c)),
+        Row::PackedScale => Ok(scales_lanes::<F, EF>()),
+        Row::Counted(element, sum) => counts::<F, EF>(alloc, element, sum),
+    }
 }
 
-fn zeros<R: PrimeCharacteristicRing>(alloc: Global) -> Result<Vec<R>, AllocError> {
-    R::zero_vec(alloc, 3)
+/// [`ring_holds`] over the quartic extension.
+fn quartic_ring(alloc: Global, row: RingRow<Quartic>) -> Result<bool, AllocError> {
+    ring_holds::<Quartic>(alloc, row)
 }
 
-/// a b + 2 b
-fn scaled<B: Additive, A: Algebra<B>>(a: A, b: B) -> A {
-    a.scale(b).plus(b) + A::from_base(b)
+/// [`ring_holds`] over two copies.
+fn pair_ring(alloc: Global, row: RingRow<Pair>) -> Result<bool, AllocError> {
+    ring_holds::<Pair>(alloc, row)
 }
 
-/// a b
-fn scaled_by_itself<R: SelfAlgebra>(a: R, b: R) -> R {
-    a.scale(b)
+/// [`holds`] over the quartic extension.
+fn quartics(alloc: Global, row: Row<Bear, Quartic>) -> Result<bool, AllocError> {
+    holds::<Bear, Quartic>(alloc, row)
+}
+
+/// [`holds`] over the quartic extension of itself.
+fn quartics_of_quartics(alloc: Global, row: Row<Quartic, Quartic>) -> Result<bool, AllocError> {
+    holds::<Quartic, Quartic>(alloc, row)
+}
+
+/// Whether 10 a b, by each product of a field, is the answer in every lane.
+fn multiplies_lanes<F: Field>(alloc: Global, a: F, b: F, answer: F) -> Result<bool, AllocError> {
+    Ok(packed_products(alloc, a, b)? == F::Packing::splat(answer))
+}
+
+/// Whether the lanes of two packed values have this sum.
+fn adds_lanes<F: Field, EF: ExtensionField<F>>(
+    alloc: Global,
+    first: EF,
+    second: EF,
+    sum: EF,
+) -> Result<bool, AllocError> {
+    let first = EF::ExtensionPacking::from_base(first);
+    let second = EF::ExtensionPacking::from_base(second);
+    let mut packed = filled(alloc, first, 1)?;
+    packed.push(second)?;
+    Ok(sum_of_lanes::<F, EF>(packed.as_slice()) == sum)
+}
+
+/// Whether twice a packed element is the same by a packing.
+fn scales_lanes<F: Field, EF: ExtensionField<F>>() -> bool {
+    let packed = EF::ExtensionPacking::from_packed_coefficients_fn(|_k| F::Packing::ONE);
+    packed.scale(F::Packing::ONE.double()) == packed.double()
+}
+
+/// The element with the coefficients 1, 2, ..
+fn counted<F: Field, EF: ExtensionField<F>>() -> EF {
+    let mut last = F::ZERO;
+    EF::from_coefficients_fn(|_k| {
+        last = last + F::ONE;
+        last
+    })
+}
+
+/// The packed element with the coefficients `lanes`, 2 `lanes`, ..
+fn counted_lanes<F: Field, EF: ExtensionField<F>>(lanes: F::Packing) -> EF::ExtensionPacking {
+    let mut last = F::Packing::ZERO;
+    EF::ExtensionPacking::from_packed_coefficients_fn(|_k| {
+        last = last + lanes;
+        last
+    })
+}
+
+/// Whether this is the element counted, and `sum` that of all lanes of two elements counted by the
+/// lanes 1, 2, 3, 4.
+fn counts<F: Field, EF: ExtensionField<F>>(
+    alloc: Global,
+    element: EF,
+    sum: EF,
+) -> Result<bool, AllocError> {
+    let lanes = elements::<F>(alloc, &[1, 2, 3, 4])?;
+    if F::Packing::WIDTH != 4 {
+        return Ok(false);
+    }
+    let packed = counted_lanes::<F, EF>(F::Packing::load(lanes.as_slice()));
+    let twice = filled(alloc, packed, 2)?;
+    Ok(counted::<F, EF>() == element && sum_of_lanes::<F, EF>(twice.as_slice()) == sum)
+}
+
+/// Whether a map, and the map of rings, give the image.
+fn maps<A: Additive, B: RingMapFrom<A>>(x: A, image: B) -> bool {
+    mapped::<A, B>(x) == image && ring_mapped::<A, B>(x) == image
 }
 
 #[test]
-fn sums_of_each(rt: HostRuntime) {
-    assert_eq!(rt;
-        sums(quartic(1, 2, 3, 4), quartic(1, 1, 0, 0)),
-        quartic(6, 7, 6, 8)
+fn sums_of_each(rt: HostRuntime) -> Result<(), Fail> {
+    assert!(rt;
+        quartic_ring(
+            rt.alloc(),
+            RingRow::Sums(
+                quartic(1, 2, 3, 4),
+                quartic(1, 1, 0, 0),
+                quartic(6, 7, 6, 8)
+            )
+        )?
     );
-    assert_eq!(rt; sums(pair(1, 2), pair(3, 4)), pair(12, 17));
-}
-
-#[test]
-fn products_of_each(rt: HostRuntime) {
-    assert_eq!(rt;
-        products(quartic(0, 0, 1, 0), quartic(0, 1, 0, 0)),
-        quartic(0, 0, 22, 0)
-    );
-    assert_eq!(rt; products(pair(1, 2), pair(3, 4)), pair(18, 128));
-    assert_eq!(rt;
-        four_times(quartic(0, 0, 1, 0), quartic(0, 0, 0, 1)),
-        quartic(0, 44, 0, 0)
-    );
-    assert_eq!(rt; four_times(pair(1, 2), pair(3, 4)), pair(12, 32));
-}
-
-#[test]
-fn zeros_of_each(rt: HostRuntime) -> Result<(), Fail> {
-    assert_eq!(rt;
-        zeros::<Quartic>(rt.alloc())?.as_slice(),
-        [Quartic::ZERO; 3].as_slice()
-    );
-    assert_eq!(rt;
-        zeros::<Pair>(rt.alloc())?.as_slice(),
-        [Pair::ZERO; 3].as_slice()
+    assert!(rt;
+        pair_ring(
+            rt.alloc(),
+            RingRow::Sums(pair(1, 2), pair(3, 4), pair(12, 17))
+        )?
     );
     Ok(())
 }
 
 #[test]
-fn quartic_over_the_base_and_itself(rt: HostRuntime) {
-    let a = quartic(1, 2, 3, 4);
-    assert_eq!(rt; scaled(a, Bear::from_u32(5)), quartic(15, 10, 15, 20));
-    assert_eq!(rt; scaled(a, quartic(0, 0, 0, 1)), quartic(22, 33, 44, 3));
-    assert_eq!(rt;
-        scaled_by_itself(a, quartic(0, 0, 0, 1)),
-        quartic(22, 33, 44, 1)
+fn products_of_each(rt: HostRuntime) -> Result<(), Fail> {
+    assert!(rt;
+        quartic_ring(
+            rt.alloc(),
+            RingRow::Products(
+                quartic(0, 0, 1, 0),
+                quartic(0, 1, 0, 0),
+                quartic(0, 0, 22, 0)
+            )
+        )?
     );
-}
-
-#[test]
-fn pair_over_the_base_and_itself(rt: HostRuntime) {
-    let a = pair(1, 2);
-    assert_eq!(rt; scaled(a, Half::from_u32(5)), pair(15, 20));
-    assert_eq!(rt; scaled(a, pair(3, 4)), pair(9, 16));
-    assert_eq!(rt; scaled_by_itself(a, pair(3, 4)), pair(3, 8));
-}
-
-/// 2 a + b, by lanes
-fn twice_and<F: Lanewise>(a: F, b: F) -> F
-    requires { 0 < F.Packing.WIDTH }
-{
-    let a = F::Packing::splat(a);
-    (a + a + F::Packing::splat(b)).lane(0)
-}
-
-#[test]
-fn lanes(rt: HostRuntime) {
-    assert_eq!(rt;
-        twice_and(quartic(1, 2, 3, 4), quartic(0, 0, 0, 1)),
-        quartic(2, 4, 6, 9)
+    assert!(rt;
+        pair_ring(
+            rt.alloc(),
+            RingRow::Products(pair(1, 2), pair(3, 4), pair(18, 128))
+        )?
     );
-    assert_eq!(rt; twice_and(pair(1, 2), pair(3, 4)), pair(5, 8));
-}
-
-/// 10 a b, where each of `l` is a and each of `r` and `c` is b
-fn packed_products<F: Field>(l: &[F::Packing], r: &[F::Packing], c: &[F]) -> F::Packing
-    requires left { length l.now ≡ 4 }
-    requires right { length r.now ≡ 4 }
-    requires scalar { length c.now ≡ 4 }
-{
-    let groups = F::dot4(l, r) + F::mixed_dot4(l, c);
-    groups + F::lanes_mul(l[0], r[0]) + F::lanes_scale(l[0], c[0])
-}
-
-fn bytes<F: Field>() -> usize {
-    F::bytes()
-}
-
-#[test]
-fn field_of_quartics(rt: HostRuntime) {
-    assert_eq!(rt; bytes::<Quartic>(), 16);
-    let (a, cube) = (Lanes::splat(quartic(1, 2, 3, 4)), quartic(0, 0, 0, 1));
-    let product = packed_products::<Quartic>(&[a; 4], &[Lanes::splat(cube); 4], &[cube; 4]);
-    assert_eq!(rt; product, Lanes::splat(quartic(220, 330, 440, 10)));
+    assert!(rt;
+        quartic_ring(
+            rt.alloc(),
+            RingRow::FourProducts(
+                quartic(0, 0, 1, 0),
+                quartic(0, 0, 0, 1),
+                quartic(0, 44, 0, 0)
+            )
+        )?
+    );
+    assert!(rt;
+        pair_ring(
+            rt.alloc(),
+            RingRow::FourProducts(pair(1, 2), pair(3, 4), pair(12, 32))
+        )?
+    );
+    Ok(())
 }
 
 #[test]
-fn field_of_pairs(rt: HostRuntime) {
-    assert_eq!(rt; bytes::<Pair>(), 8);
-    let (a, b) = (Lanes::splat(pair(1, 2)), pair(3, 4));
-    let product = packed_products::<Pair>(&[a; 4], &[Lanes::splat(b); 4], &[b; 4]);
-    assert_eq!(rt; product, Lanes::splat(pair(30, 80)));
+fn zeros_of_each(rt: HostRuntime) -> Result<(), Fail> {
+    assert!(rt; quartic_ring(rt.alloc(), RingRow::Zeros)?);
+    assert!(rt; pair_ring(rt.alloc(), RingRow::Zeros)?);
+    Ok(())
+}
+
+#[test]
+fn quartic_over_the_base_and_itself(rt: HostRuntime) -> Result<(), Fail> {
+    assert!(rt;
+        quartics(
+            rt.alloc(),
+            Row::Scaled(
+                quartic(1, 2, 3, 4),
+                Bear::from_u32(5),
+                quartic(15, 10, 15, 20)
+            )
+        )?
+    );
+    assert!(rt;
+        quartic_ring(
+            rt.alloc(),
+            RingRow::Scaled(
+                quartic(1, 2, 3, 4),
+                quartic(0, 0, 0, 1),
+                quartic(22, 33, 44, 3)
+            )
+        )?
+    );
+    assert!(rt;
+        quartic_ring(
+            rt.alloc(),
+            RingRow::ScaledByItself(
+                quartic(1, 2, 3, 4),
+                quartic(0, 0, 0, 1),
+                quartic(22, 33, 44, 1)
+            )
+        )?
+    );
+    Ok(())
+}
+
+#[test]
+fn pair_over_the_base(rt: HostRuntime) {
+    assert_eq!(rt; scaled(pair(1, 2), Half::from_u32(5)), pair(15, 20));
+}
+
+#[test]
+fn pair_over_itself(rt: HostRuntime) -> Result<(), Fail> {
+    assert!(rt;
+        pair_ring(
+            rt.alloc(),
+            RingRow::Scaled(pair(1, 2), pair(3, 4), pair(9, 16))
+        )?
+    );
+    assert!(rt;
+        pair_ring(
+            rt.alloc(),
+            RingRow::ScaledByItself(pair(1, 2), pair(3, 4), pair(3, 8))
+        )?
+    );
+    Ok(())
+}
+
+#[test]
+fn lanes(rt: HostRuntime) -> Result<(), Fail> {
+    assert!(rt;
+        quartic_ring(
+            rt.alloc(),
+            RingRow::Lanes(
+                quartic(1, 2, 3, 4),
+                quartic(0, 0, 0, 1),
+                quartic(2, 4, 6, 9)
+            )
+        )?
+    );
+    assert!(rt;
+        pair_ring(
+            rt.alloc(),
+            RingRow::Lanes(pair(1, 2), pair(3, 4), pair(5, 8))
+        )?
+    );
+    Ok(())
+}
+
+#[test]
+fn fields(rt: HostRuntime) -> Result<(), Fail> {
+    assert!(rt; quartic_ring(rt.alloc(), RingRow::Bytes(16))?);
+    assert!(rt;
+        quartic_ring(
+            rt.alloc(),
+            RingRow::PackedProducts(
+                quartic(1, 2, 3, 4),
+                quartic(0, 0, 0, 1),
+                quartic(220, 330, 440, 10)
+            )
+        )?
+    );
+    assert!(rt; pair_ring(rt.alloc(), RingRow::Bytes(8))?);
+    assert!(rt;
+        pair_ring(
+            rt.alloc(),
+            RingRow::PackedProducts(pair(1, 2), pair(3, 4), pair(30, 80))
+        )?
+    );
+    Ok(())
 }
 
 #[test]
@@ -165,216 +333,79 @@ fn bytes_up_to_the_greatest(rt: HostRuntime) {
     );
 }
 
-/// Each coefficient is `c`, and the first one then 2 c.
-pub fn doubled<F: Field, EF: ExtensionField<F>>(c: F) -> F
-    requires { 0 < EF.DIMENSION }
-{
-    let mut element = EF::from_coefficients_fn(|_k| c);
-    let twice = element.coefficient(0).double();
-    element.set_coefficient(0, twice);
-    element.coefficient(0)
-}
-
-/// The first coefficient of each lane doubled
-pub fn doubled_lanes<F: Field, EF: ExtensionField<F>>(values: &[EF], out: &mut [EF]) -> EF
-    requires coefficients { 0 < EF.DIMENSION }
-    requires lanes { 0 < F.Packing.WIDTH }
-    requires read { length values.now ≡ F.Packing.WIDTH }
-    requires written { length out.old ≡ F.Packing.WIDTH }
-{
-    let mut packed = EF::ExtensionPacking::from_ext_slice(values);
-    let twice = packed.packed_coefficient(0).double();
-    packed.set_packed_coefficient(0, twice);
-    packed.store_ext(out);
-    packed.ext_lane(0)
-}
-
-/// The lanes of all values, added up
-pub fn sum_of_lanes<F: Field, EF: ExtensionField<F>>(packed: &[EF::ExtensionPacking]) -> EF {
-    let mut sum = EF::ZERO;
-    for element in EF::ExtensionPacking::to_ext_iter(packed) {
-        sum = sum + element;
-    }
-    sum
-}
-
 #[test]
-fn quartic_coefficients(rt: HostRuntime) {
-    assert_eq!(rt;
-        doubled::<Bear, Quartic>(Bear::from_u32(3)),
-        Bear::from_u32(6)
+fn quartic_coefficients(rt: HostRuntime) -> Result<(), Fail> {
+    assert!(rt;
+        quartics(
+            rt.alloc(),
+            Row::Doubled(Bear::from_u32(3), Bear::from_u32(6))
+        )?
     );
+    Ok(())
 }
 
 #[test]
-fn quartic_lanes(rt: HostRuntime) {
-    let mut out = [Quartic::ZERO; 4];
-    let first = doubled_lanes::<Bear, Quartic>(&[quartic(1, 2, 3, 4); 4], &mut out);
-    assert_eq!(rt; first, quartic(2, 2, 3, 4));
-    assert_eq!(rt; out, [quartic(2, 2, 3, 4); 4]);
-}
-
-#[test]
-fn quartic_lanes_in_order(rt: HostRuntime) {
-    let packed = [
-        PackedQuartic::from_base(quartic(1, 2, 3, 4)),
-        PackedQuartic::ONE,
-    ];
-    assert_eq!(rt;
-        sum_of_lanes::<Bear, Quartic>(&packed),
-        quartic(8, 8, 12, 16)
+fn quartic_lanes(rt: HostRuntime) -> Result<(), Fail> {
+    assert!(rt;
+        quartics(
+            rt.alloc(),
+            Row::DoubledLanes(quartic(1, 2, 3, 4), quartic(2, 2, 3, 4))
+        )?
     );
-}
-
-#[test]
-fn quartic_over_itself(rt: HostRuntime) {
-    let a = quartic(1, 2, 3, 4);
-    assert_eq!(rt; doubled::<Quartic, Quartic>(a), quartic(2, 4, 6, 8));
-}
-
-#[test]
-fn quartic_lanes_over_itself(rt: HostRuntime) {
-    let mut out = [Quartic::ZERO; 1];
-    let twice = doubled_lanes::<Quartic, Quartic>(&[quartic(1, 2, 3, 4)], &mut out);
-    assert_eq!(rt; twice, quartic(2, 4, 6, 8));
-    assert_eq!(rt; out, [twice]);
-}
-
-#[test]
-fn quartic_packed_coefficients(rt: HostRuntime) {
-    let packed = PackedQuartic::from_packed_coefficients_fn(|_k| Lanes::ONE);
-    assert_eq!(rt; packed, PackedQuartic::from_base(quartic(1, 1, 1, 1)));
-    assert_eq!(rt; packed.scale(Lanes::<Bear, 4>::TWO), packed.double());
-}
-
-#[test]
-fn pair_coefficients(rt: HostRuntime) {
-    let mut element = pair(2, 3);
-    <Pair as ExtensionField<Half>>::set_coefficient(&mut element, 1, Half::ONE);
-    assert_eq!(rt; element, pair(2, 1));
-    assert_eq!(rt;
-        <Pair as ExtensionField<Half>>::coefficient(&element, 0),
-        Half::TWO
+    assert!(rt;
+        quartics(
+            rt.alloc(),
+            Row::LanesInOrder(
+                quartic(1, 2, 3, 4),
+                quartic(1, 0, 0, 0),
+                quartic(8, 8, 12, 16)
+            )
+        )?
     );
-    assert_eq!(rt; <Pair as ExtensionField<Half>>::DIMENSION, 2);
+    Ok(())
 }
 
 #[test]
-fn pair_lanes(rt: HostRuntime) {
-    let mut packed = PackedPair::from_ext_slice(&[pair(1, 2), pair(3, 4)]);
-    assert_eq!(rt;
-        packed.packed_coefficient(1),
-        Lanes::from_array([Half::from_u32(2), Half::from_u32(4)])
-    );
-    packed.set_packed_coefficient(0, Lanes::ZERO);
-    assert_eq!(rt; packed.ext_lane(1), pair(0, 4));
-    let mut out = [Pair::ZERO; 2];
-    packed.store_ext(&mut out);
-    assert_eq!(rt; out, [pair(0, 2), pair(0, 4)]);
+fn quartic_packed_coefficients(rt: HostRuntime) -> Result<(), Fail> {
+    assert!(rt; quartics(rt.alloc(), Row::PackedCoefficients(Bear::ONE))?);
+    assert!(rt; quartics(rt.alloc(), Row::PackedScale)?);
+    Ok(())
 }
 
 #[test]
-fn pair_over_itself(rt: HostRuntime) {
-    let mut element = pair(1, 2);
-    assert_eq!(rt;
-        <Pair as ExtensionField<Pair>>::coefficient(&element, 0),
-        pair(1, 2)
+fn quartic_over_itself(rt: HostRuntime) -> Result<(), Fail> {
+    assert!(rt;
+        quartics_of_quartics(
+            rt.alloc(),
+            Row::Doubled(quartic(1, 2, 3, 4), quartic(2, 4, 6, 8))
+        )?
     );
-    <Pair as ExtensionField<Pair>>::set_coefficient(&mut element, 0, pair(3, 4));
-    assert_eq!(rt; element, pair(3, 4));
-    assert_eq!(rt; <Pair as ExtensionField<Pair>>::DIMENSION, 1);
-}
-
-#[test]
-fn pair_lanes_over_itself(rt: HostRuntime) {
-    let mut packed = Lanes::<Pair, 1>::from_ext_slice(&[pair(1, 2)]);
-    assert_eq!(rt; packed.ext_lane(0), pair(1, 2));
-    packed.set_packed_coefficient(0, Lanes::splat(pair(3, 4)));
-    assert_eq!(rt; packed.packed_coefficient(0), Lanes::splat(pair(3, 4)));
-    let mut out = [Pair::ZERO];
-    packed.store_ext(&mut out);
-    assert_eq!(rt; out, [pair(3, 4)]);
-}
-
-#[test]
-fn no_copies_have_no_coefficient(rt: HostRuntime) {
-    let none = ProductAlgebra::<Bear, 0>::from_array([]);
-    assert_eq!(rt; none, ProductAlgebra::ZERO);
-    assert_eq!(rt;
-        <ProductAlgebra<Bear, 0> as ExtensionField<Bear>>::DIMENSION,
-        0
+    assert!(rt;
+        quartics_of_quartics(
+            rt.alloc(),
+            Row::DoubledLanes(quartic(1, 2, 3, 4), quartic(2, 4, 6, 8))
+        )?
     );
-    let packed = ProductAlgebra::<Lanes<Bear, 4>, 0>::from_ext_slice(&[none; 4]);
-    assert_eq!(rt; packed.ext_lane(3), none);
-}
-
-#[test]
-fn one_copy(rt: HostRuntime) {
-    let five = ProductAlgebra::<Bear, 1>::from_base(Bear::from_u32(5));
-    assert_eq!(rt;
-        <ProductAlgebra<Bear, 1> as ExtensionField<Bear>>::coefficient(&five, 0),
-        Bear::from_u32(5)
-    );
-    let packed = ProductAlgebra::<Lanes<Bear, 4>, 1>::from_ext_slice(&[five; 4]);
-    assert_eq!(rt;
-        packed.packed_coefficient(0),
-        Lanes::splat(Bear::from_u32(5))
-    );
-}
-
-#[test]
-fn nine_copies(rt: HostRuntime) {
-    let five = ProductAlgebra::<Bear, 9>::from_base(Bear::from_u32(5));
-    let mut element = five * five;
-    <ProductAlgebra<Bear, 9> as ExtensionField<Bear>>::set_coefficient(&mut element, 8, Bear::ONE);
-    assert_eq!(rt;
-        <ProductAlgebra<Bear, 9> as ExtensionField<Bear>>::coefficient(&element, 7),
-        Bear::from_u32(25)
-    );
-    let packed = ProductAlgebra::<Lanes<Bear, 4>, 9>::from_ext_slice(&[element; 4]);
-    assert_eq!(rt; packed.packed_coefficient(8), Lanes::ONE);
-    assert_eq!(rt; packed.ext_lane(3), element);
-}
-
-fn mapped<A: Additive, B: MapFrom<A>>(x: A) -> B {
-    B::map(x)
-}
-
-fn ring_mapped<A: Additive, B: RingMapFrom<A>>(x: A) -> B {
-    B::map(x)
+    Ok(())
 }
 
 #[test]
 fn conversions(rt: HostRuntime) {
-    let five = Bear::from_u32(5);
-    assert_eq!(rt; mapped::<Bear, Quartic>(five), quartic(5, 0, 0, 0));
-    assert_eq!(rt; ring_mapped::<Bear, Quartic>(five), quartic(5, 0, 0, 0));
-    let element = quartic(1, 2, 3, 4);
-    assert_eq!(rt; mapped::<Quartic, Quartic>(element), element);
-    assert_eq!(rt; ring_mapped::<Quartic, Quartic>(element), element);
-    let five = Half::from_u32(5);
-    assert_eq!(rt; mapped::<Half, Pair>(five), pair(5, 5));
-    assert_eq!(rt; ring_mapped::<Half, Pair>(five), pair(5, 5));
-}
-
-fn drawn<T: Sample, R: RngExt>(rng: &mut R) -> T {
-    T::sample(rng)
+    let (five, element) = (Bear::from_u32(5), quartic(1, 2, 3, 4));
+    assert!(rt; maps::<Bear, Quartic>(five, quartic(5, 0, 0, 0)));
+    assert!(rt; maps::<Quartic, Quartic>(element, element));
+    assert!(rt; maps::<Half, Pair>(Half::from_u32(5), pair(5, 5)));
 }
 
 #[test]
-fn samples(rt: HostRuntime) {
+fn samples(rt: HostRuntime) -> Result<(), Fail> {
     let (mut rng, mut same) = (Pcg32::new(42, 54), Pcg32::new(42, 54));
-    let element = drawn::<Quartic, _>(&mut rng);
-    for k in 0..4 {
-        let part = drawn::<Bear, _>(&mut same);
-        assert_eq!(rt;
-            <Quartic as ExtensionField<Bear>>::coefficient(&element, k),
-            part
-        );
-    }
-    let copies = drawn::<Pair, _>(&mut rng).to_array();
-    assert_eq!(rt;
-        copies,
-        [drawn::<Half, _>(&mut same), drawn::<Half, _>(&mut same)]
-    );
+    let element = drawn::<Quartic>(rt.alloc(), &mut rng, 1)?[0];
+    let coefficients = [element.c0, element.c1, element.c2, element.c3];
+    let parts = drawn::<Bear>(rt.alloc(), &mut same, 4)?;
+    assert_eq!(rt; coefficients.as_slice(), parts.as_slice());
+    let copies = drawn::<Pair>(rt.alloc(), &mut rng, 1)?[0].to_array();
+    let parts = drawn::<Half>(rt.alloc(), &mut same, 2)?;
+    assert_eq!(rt; copies.as_slice(), parts.as_slice());
+    Ok(())
 }

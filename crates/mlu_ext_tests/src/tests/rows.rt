@@ -1,3 +1,4 @@
+//! Worked values of each extension: products, scales, and coefficients in lanes.
 use super::{Bear, Quartic, quartic};
 use mlu_ext::ProductAlgebra;
 use mlu_lanes::Lanes;

@@ -1,5 +1,0 @@
-use Rattle.std.proofs.Common.{◌≡◌, vec_len}
-use Rattle.mlu_eq_tests.proofs.tests.halves.packed.Given as goal
-
-abbrev pub invariant-loop-i : goal.invariant-loop-i
-invariant-loop-i g l = vec_len l.packed ≡ l.i

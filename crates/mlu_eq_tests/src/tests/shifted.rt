@@ -1,0 +1,150 @@
+//! The steps to the next row of a half table, and the sums with the whole table moved up by one
+//! place.
+ghost use Rattle.std.specs.Prelude.{◌≡◌, ◌*◌, ◌<◌, length};
+ghost use Rattle.mlu_eq.specs.Weights.{weights_of};
+
+use super::halves::scalar_half;
+use super::kernels::{row_dots, with_rows};
+use mlu_eq::EqMaybePacked;
+use mlu_ring::{ExtensionField, Field, PrimeCharacteristicRing, Sample};
+use mlu_test_support::draws::drawn;
+use mlu_test_support::numbers::{are, element, elements};
+use mlu_test_support::plain::{dot, images, last};
+use rand_pcg::Pcg32;
+use std::alloc::{AllocError, Global};
+
+/// Whether the last weight is the last of these.
+pub fn ends_with_last<F: Field, EF: ExtensionField<F>>(
+    eq1: &EqMaybePacked<F, EF>,
+    weights: &[EF],
+) -> bool {
+    eq1.last_scalar() == last(weights)
+}
+
+/// Whether each place has its old value, its weight times `eq_weight`, and the weight before it
+/// times `shifted_weight`, the first place `boundary` for that.
+fn is_next_row<R: PrimeCharacteristicRing>(
+    out: &[R],
+    old: &[R],
+    weights: &[R],
+    eq_weight: R,
+    shifted_weight: R,
+    boundary: R,
+) -> bool {
+    let mut before = boundary;
+    for (new, (old, weight)) in out.iter().zip(old.iter().zip(weights.iter())) {
+        if *new != *old + eq_weight * *weight + before {
+            return false;
+        }
+        before = shifted_weight * *weight;
+    }
+    out.len() == weights.len()
+}
+
+/// Whether each place of a drawn output takes its weight and the one before it, times drawn factors.
+pub fn next_row_agrees<F: Field, EF: ExtensionField<F> + Sample>(
+    alloc: Global,
+    rng: &mut Pcg32,
+    eq1: &EqMaybePacked<F, EF>,
+    weights: &[EF],
+) -> Result<bool, AllocError>
+    requires { length weights.now ≡ length (weights_of EF.ExtensionPacking.ext_lanes eq1.now) }
+{
+    let eq_weight = EF::sample(rng);
+    let shifted_weight = EF::sample(rng);
+    let boundary = EF::sample(rng);
+    let old = drawn::<EF>(alloc, rng, weights.len())?;
+    let mut out = Vec::from_slice(alloc, &old)?;
+    eq1.accumulate_next_chunk_into(&mut out, eq_weight, shifted_weight, boundary);
+    Ok(is_next_row(&out, &old, weights, eq_weight, shifted_weight, boundary))
+}
+
+/// Whether two weights add what they are to add.
+pub fn adds_the_row_before<F: Field, EF: ExtensionField<F>>(
+    alloc: Global,
+) -> Result<bool, AllocError> {
+    let half = scalar_half::<F, EF>(alloc, &elements(alloc, &[-1, 2])?)?;
+    let mut out = elements(alloc, &[10, 20])?;
+    half.accumulate_next_chunk_into(&mut out, element(3), element(5), element(7));
+    Ok(are(&out, &[14, 21]))
+}
+
+/// Whether the dot of the moved table with drawn base entries is the plain sum.
+fn dots_agree<F: Field + Sample, EF: ExtensionField<F>>(
+    alloc: Global,
+    rng: &mut Pcg32,
+    eq0: &[EF],
+    eq1: &EqMaybePacked<F, EF>,
+    moved: &[EF],
+) -> Result<bool, AllocError>
+    requires { length moved.now ≡ length eq0.now * length (weights_of EF.ExtensionPacking.ext_lanes eq1.now) }
+{
+    let base = drawn::<F>(alloc, rng, moved.len())?;
+    let sum = eq1.dot_base_shifted(eq0, &base);
+    Ok(sum == dot(moved, &images::<F, EF>(alloc, &base)?))
+}
+
+/// Whether each of `positions` rows of drawn base entries becomes its dot with the moved table.
+fn suffixes_agree<F: Field + Sample, EF: ExtensionField<F> + Sample>(
+    alloc: Global,
+    rng: &mut Pcg32,
+    eq0: &[EF],
+    eq1: &EqMaybePacked<F, EF>,
+    moved: &[EF],
+    positions: usize,
+) -> Result<bool, AllocError>
+    requires moved { length moved.now ≡ length eq0.now * length (weights_of EF.ExtensionPacking.ext_lanes eq1.now) }
+    requires small { length moved.now < 256 }
+    requires positions { positions < 8 }
+{
+    if eq0.is_empty() {
+        return Ok(true);
+    }
+    let base = drawn::<F>(alloc, rng, positions * moved.len())?;
+    let mut out = drawn::<EF>(alloc, rng, positions)?;
+    eq1.compress_suffix_shifted_into(eq0, &mut out, &base);
+    Ok(out == row_dots(alloc, moved, &base)?)
+}
+
+/// Whether rows of drawn base entries are added to `positions` drawn outputs, times their entries of
+/// the moved table.
+fn prefixes_agree<F: Field + Sample, EF: ExtensionField<F> + Sample>(
+    alloc: Global,
+    rng: &mut Pcg32,
+    eq0: &[EF],
+    eq1: &EqMaybePacked<F, EF>,
+    moved: &[EF],
+    positions: usize,
+) -> Result<bool, AllocError>
+    requires moved { length moved.now ≡ length eq0.now * length (weights_of EF.ExtensionPacking.ext_lanes eq1.now) }
+    requires small { length moved.now < 256 }
+    requires positions { positions < 8 }
+{
+    let base = drawn::<F>(alloc, rng, moved.len() * positions)?;
+    let mut out = drawn::<EF>(alloc, rng, positions)?;
+    let sums = with_rows(alloc, &out, moved, &base)?;
+    eq1.compress_prefix_shifted_into(eq0, &mut out, &base);
+    Ok(out == sums)
+}
+
+/// Whether the sums with the moved table agree, for outputs of up to two places.
+pub fn agree<F: Field + Sample, EF: ExtensionField<F> + Sample>(
+    alloc: Global,
+    rng: &mut Pcg32,
+    eq0: &[EF],
+    eq1: &EqMaybePacked<F, EF>,
+    moved: &[EF],
+) -> Result<bool, AllocError>
+    requires moved { length moved.now ≡ length eq0.now * length (weights_of EF.ExtensionPacking.ext_lanes eq1.now) }
+    requires small { length moved.now < 256 }
+{
+    for positions in 0..3 {
+        if !dots_agree(alloc, rng, eq0, eq1, moved)?
+            || !suffixes_agree(alloc, rng, eq0, eq1, moved, positions)?
+            || !prefixes_agree(alloc, rng, eq0, eq1, moved, positions)?
+        {
+            return Ok(false);
+        }
+    }
+    Ok(true)
+}
