@@ -2,6 +2,7 @@
 //!
 //! A row is a function over any rings that gives whether it holds, reached by its name in [`Row`] or
 //! [`FieldRow`].
+ghost use Rattle.std.specs.Prelude.{◌≤◌};
 
 mod batches;
 mod evaluations;
@@ -87,6 +88,7 @@ fn holds<F: Field + Sample, EF: ExtensionField<F> + Sample>(
 fn residues<const W: usize>(alloc: Global, row: Row) -> Result<bool, AllocError>
 where
     Lanes<BabyBear<W>, W>: LaneWidth<W>,
+    requires { W ≤ 8 }
 {
     holds::<BabyBear<W>, BabyBear<W>>(alloc, row)
 }
@@ -149,11 +151,7 @@ fn everywhere(alloc: Global, row: Row) -> Result<bool, AllocError> {
 
 /// Whether the row holds at each field, and at products of no copy and of nine.
 fn everywhere_and_in_products(alloc: Global, row: FieldRow) -> Result<bool, AllocError> {
-    Ok(
-        everywhere(alloc, Row::Field(row))?
-            && no_copies(alloc, row)?
-            && nine_copies(alloc, row)?,
-    )
+    Ok(everywhere(alloc, Row::Field(row))? && no_copies(alloc, row)? && nine_copies(alloc, row)?)
 }
 
 #[test]

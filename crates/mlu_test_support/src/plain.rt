@@ -165,10 +165,7 @@ pub fn last<R: PrimeCharacteristicRing>(entries: &[R]) -> R {
 }
 
 /// The entries moved up by one place: zero, and then all but the last.
-pub fn moved<R: PrimeCharacteristicRing>(
-    alloc: Global,
-    entries: &[R],
-) -> Result<Vec<R>, AllocError>
+pub fn moved<R: PrimeCharacteristicRing>(alloc: Global, entries: &[R]) -> Result<Vec<R>, AllocError>
     ensures { IfOk result (λ moved. vec_len moved ≡ length entries.now) }
 {
     let mut moved = R::zero_vec(alloc, entries.len())?;

@@ -11,10 +11,7 @@ use std::alloc::{AllocError, Global};
 /// The parts of a point of three coordinates.
 pub fn parts<R: Additive>(alloc: Global) -> Result<bool, AllocError> {
     let point: Point<R> = Point::new(elements(alloc, &[2, 3, 5])?);
-    let middle = are(
-        point.get_subpoint_over_range(alloc, 1..2)?.as_slice(),
-        &[3],
-    );
+    let middle = are(point.get_subpoint_over_range(alloc, 1..2)?.as_slice(), &[3]);
     let nothing = point.get_subpoint_over_range(alloc, 3..3)? == Point::empty(alloc);
     let backwards = are(point.reversed(alloc)?.as_slice(), &[5, 3, 2]);
     let (first, rest) = point.split_at(alloc, 0)?;
@@ -43,8 +40,7 @@ pub fn parts_of_a_view<R: Additive>(alloc: Global) -> Result<bool, AllocError> {
         && (&view).into_iter().count() == 3;
     let backwards = are(view.reversed(alloc)?.as_slice(), &[5, 3, 2]);
     let (first, rest) = view.split_at(alloc, 1)?;
-    let halves = are(first.as_slice(), &[2])
-        && rest == view.get_subpoint_over_range(alloc, 1..3)?;
+    let halves = are(first.as_slice(), &[2]) && rest == view.get_subpoint_over_range(alloc, 1..3)?;
     Ok(whole && counted && backwards && halves)
 }
 
