@@ -1,94 +1,195 @@
 //! Worked rows of split tables and of the calls through them.
+ghost use Rattle.std.specs.Prelude.{◌<◌};
 
-use super::{Bear, Quartic, elements, table};
-use mlu_lanes::{BabyBear, Lanes, WrappingU64};
-use mlu_ring::{Additive, PackedValue, PrimeCharacteristicRing};
+use super::rings::{Row, quartics, residues, words};
+use super::{pair, point, poly, table};
+use mlu_ring::{Additive, ExtensionField, Field, MapFrom, PackedValue, PrimeCharacteristicRing};
+use mlu_test_support::lanes::{lanes, packed};
+use mlu_test_support::numbers::{are, element, elements};
 use multilinear_util::point::Point;
 use multilinear_util::poly::Poly;
 use multilinear_util::split_eq::SplitEq;
+use std::alloc::{AllocError, Global};
 use std::test::Fail;
+
+/// Whether 1, 2, 3, 4 are compressed as they must be at 2, the first coordinate.
+pub fn compresses_prefix<F: Field, EF: ExtensionField<F>>(
+    alloc: Global,
+) -> Result<bool, AllocError> {
+    let poly = table::<F>(alloc, &[1, 2, 3, 4])?;
+    let two = point::<EF>(alloc, &[2])?;
+    let left = poly.compress_prefix(alloc, &two, element(5))?;
+    Ok(are(left.as_slice(), &[25, 30]) && is_forty::<F, EF>(alloc, &left, &[3])?)
+}
+
+/// Whether 1, 2, 3, 4 are compressed as they must be at 3, the last coordinate.
+pub fn compresses_suffix<F: Field, EF: ExtensionField<F>>(
+    alloc: Global,
+) -> Result<bool, AllocError> {
+    let poly = table::<F>(alloc, &[1, 2, 3, 4])?;
+    let three = point::<EF>(alloc, &[3])?;
+    let left = poly.compress_suffix(alloc, &three, element(5))?;
+    Ok(are(left.as_slice(), &[20, 30]) && is_forty::<F, EF>(alloc, &left, &[2])?)
+}
+
+/// Whether the value at the point with these coordinates is 40.
+fn is_forty<F: Field, EF: ExtensionField<F>>(
+    alloc: Global,
+    poly: &Poly<EF>,
+    coordinates: &[i32],
+) -> Result<bool, AllocError> {
+    let point = point::<EF>(alloc, coordinates)?;
+    if poly.num_variables() != point.num_variables() {
+        return Ok(false);
+    }
+    Ok(poly.as_view().eval_ext::<F>(alloc, &point)? == element(40))
+}
 
 #[test]
 fn compresses_and_evaluates(rt: HostRuntime) -> Result<(), Fail> {
-    let poly = table::<4, Bear>(rt.alloc(), &[1, 2, 3, 4])?;
-    let two = Point::new(elements::<4, Bear>(rt.alloc(), &[2])?);
-    let three = Point::new(elements::<4, Bear>(rt.alloc(), &[3])?);
-    let five = BabyBear::from_u32(5);
-    let value = BabyBear::from_u32(40);
-    let prefix = poly.compress_prefix(rt.alloc(), &two, five)?;
-    assert!(rt; prefix == table(rt.alloc(), &[25, 30])?);
-    assert_eq!(rt; prefix.eval_base(rt.alloc(), &three)?, value);
-    let suffix = poly.compress_suffix(rt.alloc(), &three, five)?;
-    assert!(rt; suffix == table(rt.alloc(), &[20, 30])?);
-    assert_eq!(rt; suffix.as_view().eval_ext::<Bear>(rt.alloc(), &two)?, value);
+    assert!(rt; residues::<4>(rt.alloc(), Row::CompressesPrefix)?);
+    assert!(rt; residues::<4>(rt.alloc(), Row::CompressesSuffix)?);
     Ok(())
+}
+
+/// Whether the table of the empty point is its scale.
+pub fn scales_a_constant<F: Field, EF: ExtensionField<F>>(
+    alloc: Global,
+) -> Result<bool, AllocError> {
+    let seven = table::<F>(alloc, &[7])?;
+    let split = SplitEq::<F, EF>::new_packed(alloc, &Point::empty(alloc), element(5))?;
+    if split.num_variables() != 0 {
+        return Ok(false);
+    }
+    Ok(split.eval_base(seven.as_view()) == element(35))
 }
 
 #[test]
 fn scale_of_a_constant(rt: HostRuntime) -> Result<(), Fail> {
-    let seven = table::<4, Bear>(rt.alloc(), &[7])?;
-    let none = Point::<Bear>::empty(rt.alloc());
-    let split = SplitEq::<Bear, Bear>::new_packed(rt.alloc(), &none, BabyBear::from_u32(5))?;
-    assert_eq!(rt; split.eval_base(seven.as_view()), BabyBear::from_u32(35));
-    assert_eq!(rt; split.num_variables(), 0);
+    assert!(rt; residues::<4>(rt.alloc(), Row::ScaleOfAConstant)?);
     Ok(())
+}
+
+/// Whether both tables of the point (2, 3, 5) are stored as they must be and give the value 20 of
+/// 1, 2, .., 8. Asks for at most four lanes.
+pub fn constructs<F: Field, EF: ExtensionField<F>>(alloc: Global) -> Result<bool, AllocError> {
+    let point = point::<EF>(alloc, &[2, 3, 5])?;
+    let unpacked = SplitEq::<F, EF>::new_unpacked(alloc, &point, EF::ONE)?;
+    let packed = SplitEq::<F, EF>::new_packed(alloc, &point, EF::ONE)?;
+    let is_stored = !unpacked.eq1().is_packed()
+        && packed.eq1().is_packed()
+        && packed.eq0().num_variables() == 1;
+    Ok(is_stored && is_twenty(alloc, &unpacked)? && is_twenty(alloc, &packed)?)
+}
+
+/// Whether the sum over 1, 2, .., 8 is 20.
+fn is_twenty<F: Field, EF: ExtensionField<F>>(
+    alloc: Global,
+    split: &SplitEq<F, EF>,
+) -> Result<bool, AllocError> {
+    let poly = table::<F>(alloc, &[1, 2, 3, 4, 5, 6, 7, 8])?;
+    if split.num_variables() != 3 {
+        return Ok(false);
+    }
+    Ok(split.eval_base(poly.as_view()) == element(20))
+}
+
+/// Whether the value of 1, 2, .., 8 in four lanes at the point (2, 3, 5) is 20.
+pub fn value_of_lanes<F: Field, EF: ExtensionField<F>>(alloc: Global) -> Result<bool, AllocError> {
+    if F::Packing::WIDTH != 4 {
+        return Ok(false);
+    }
+    let point = point::<EF>(alloc, &[2, 3, 5])?;
+    let values: Vec<EF> = elements(alloc, &[1, 2, 3, 4, 5, 6, 7, 8])?;
+    let lanes = poly(packed::<F, EF>(alloc, &values, 2)?)?;
+    Ok(lanes.eval_packed::<F, EF>(alloc, &point)? == element(20))
 }
 
 #[test]
 fn both_constructors(rt: HostRuntime) -> Result<(), Fail> {
-    let poly = table::<4, Bear>(rt.alloc(), &[1, 2, 3, 4, 5, 6, 7, 8])?;
-    let point = Point::new(elements::<4, Bear>(rt.alloc(), &[2, 3, 5])?);
-    let unpacked = SplitEq::<Bear, Bear>::new_unpacked(rt.alloc(), &point, Bear::ONE)?;
-    let packed = SplitEq::<Bear, Bear>::new_packed(rt.alloc(), &point, Bear::ONE)?;
-    assert!(rt; !unpacked.eq1().is_packed());
-    assert!(rt; packed.eq1().is_packed());
-    assert_eq!(rt; packed.eq0().num_variables(), 1);
-    assert_eq!(rt; unpacked.eval_base(poly.as_view()), BabyBear::from_u32(20));
-    assert_eq!(rt; packed.eval_base(poly.as_view()), BabyBear::from_u32(20));
-    let rows = [[1, 2, 3, 4], [5, 6, 7, 8]];
-    let lanes = rows.map(|row| Lanes::from_array(row.map(BabyBear::<4>::from_u32)));
-    let lanes = Poly::new(Vec::from_slice(rt.alloc(), &lanes)?);
-    assert_eq!(rt;
-        lanes.eval_packed::<Bear, Bear>(rt.alloc(), &point)?,
-        BabyBear::from_u32(20)
-    );
+    assert!(rt; residues::<4>(rt.alloc(), Row::BothConstructors)?);
+    assert!(rt; residues::<4>(rt.alloc(), Row::ValueOfLanes)?);
     Ok(())
+}
+
+/// Whether a vertex has its one entry, added to four packed zeros of four lanes.
+pub fn adds_one_entry<F: Field, EF: ExtensionField<F>>(alloc: Global) -> Result<bool, AllocError> {
+    let point = point::<EF>(alloc, &[1, 0, 0, 1])?;
+    let split = SplitEq::<F, EF>::new_unpacked(alloc, &point, element(5))?;
+    if split.num_variables() != 4 || F::Packing::WIDTH != 4 {
+        return Ok(false);
+    }
+    let mut out = EF::ExtensionPacking::zero_vec(alloc, 4)?;
+    split.accumulate_into_packed(alloc, out.as_mut_slice(), Some(EF::TWO))?;
+    let sums = lanes::<F, EF>(alloc, &out)?;
+    Ok(are(&sums, &[0, 0, 0, 0, 0, 0, 0, 0, 0, 10, 0, 0, 0, 0, 0, 0]))
 }
 
 #[test]
 fn one_entry_of_sixteen(rt: HostRuntime) -> Result<(), Fail> {
-    let point = Point::new(elements::<4, Bear>(rt.alloc(), &[1, 0, 0, 1])?);
-    let split = SplitEq::<Bear, Bear>::new_unpacked(rt.alloc(), &point, BabyBear::from_u32(5))?;
-    let mut out = [Lanes::<Bear, 4>::ZERO; 4];
-    split.accumulate_into_packed(rt.alloc(), &mut out, Some(Bear::TWO))?;
-    let element = Lanes::from_array([0, 10, 0, 0].map(BabyBear::<4>::from_u32));
-    assert!(rt; out == [Lanes::ZERO, Lanes::ZERO, element, Lanes::ZERO]);
+    assert!(rt; residues::<4>(rt.alloc(), Row::OneEntryOfSixteen)?);
     Ok(())
+}
+
+/// Whether 5 times the weights of the point (2) have these images in `R`.
+pub fn has_images<F: Field, EF: ExtensionField<F>, R: ExtensionField<R> + MapFrom<EF>>(
+    alloc: Global,
+    images: &[R],
+) -> Result<bool, AllocError> {
+    let two = point::<EF>(alloc, &[2])?;
+    let split = SplitEq::<F, EF>::new_unpacked(alloc, &two, element(5))?;
+    is_table(alloc, &split.to_field::<R>(alloc)?, images)
+}
+
+/// Whether the split table has these two entries.
+fn is_table<R: ExtensionField<R>>(
+    alloc: Global,
+    split: &SplitEq<R, R>,
+    entries: &[R],
+) -> Result<bool, AllocError> {
+    if split.num_variables() != 1 {
+        return Ok(false);
+    }
+    Ok(split.materialize(alloc)?.as_slice() == entries)
+}
+
+/// Whether the value at 2 of zero and `half` is zero.
+pub fn vanishes<R: ExtensionField<R>>(alloc: Global, half: R) -> Result<bool, AllocError> {
+    let poly = poly(pair(alloc, R::ZERO, half)?)?;
+    let two = point::<R>(alloc, &[2])?;
+    Ok(poly.eval_base(alloc, &two)? == R::ZERO)
 }
 
 #[test]
 fn other_rings(rt: HostRuntime) -> Result<(), Fail> {
-    let point = Point::new(elements::<4, Bear>(rt.alloc(), &[2])?);
-    let split = SplitEq::<Bear, Bear>::new_unpacked(rt.alloc(), &point, BabyBear::from_u32(5))?;
-    let images = split.to_field::<WrappingU64<4>>(rt.alloc())?;
-    assert_eq!(rt; images.num_variables(), 1);
-    let entries = images.materialize(rt.alloc())?;
-    assert!(rt; entries.as_slice() == [10066329600, 10].map(WrappingU64::new).as_slice());
-    let high = [0, 1 << 63].map(WrappingU64::<4>::new);
-    let table = Poly::new(Vec::from_slice(rt.alloc(), &high)?);
-    let two = Point::new(Vec::from_slice(rt.alloc(), &[WrappingU64::<4>::new(2)])?);
-    assert!(rt; table.eval_base(rt.alloc(), &two)? == WrappingU64::new(0));
+    assert!(rt; words(rt.alloc())?);
     Ok(())
+}
+
+/// Whether the last vertex has the weight `x^2 * x^3` of the point (x^2, x^3), which is `11 * x`.
+pub fn evaluates_monomials<F: Field, EF: ExtensionField<F>>(
+    alloc: Global,
+) -> Result<bool, AllocError> {
+    if EF::DIMENSION < 4 {
+        return Ok(false);
+    }
+    let (square, cube) = (monomial::<F, EF>(2, 1), monomial::<F, EF>(3, 1));
+    let point = Point::new(pair(alloc, square, cube)?);
+    let poly = table::<F>(alloc, &[0, 0, 0, 1])?;
+    Ok(poly.eval_base(alloc, &point)? == monomial::<F, EF>(1, 11))
+}
+
+/// The element whose coefficient `k` is the image of the number, and the others zero.
+fn monomial<F: Field, EF: ExtensionField<F>>(k: usize, number: i32) -> EF
+    requires { k < EF.DIMENSION }
+{
+    let mut power = EF::ZERO;
+    power.set_coefficient(k, element(number));
+    power
 }
 
 #[test]
 fn value_in_the_extension(rt: HostRuntime) -> Result<(), Fail> {
-    let [zero, one, eleven] = [0, 1, 11].map(BabyBear::<4>::from_u32);
-    let square = Quartic::new(zero, zero, one, zero);
-    let cube = Quartic::new(zero, zero, zero, one);
-    let point = Point::new(Vec::from_slice(rt.alloc(), &[square, cube])?);
-    let poly = table::<4, Bear>(rt.alloc(), &[0, 0, 0, 1])?;
-    let value = poly.eval_base(rt.alloc(), &point)?;
-    assert!(rt; value == Quartic::new(zero, eleven, zero, zero));
+    assert!(rt; quartics::<4>(rt.alloc(), Row::ValueInTheExtension)?);
     Ok(())
 }

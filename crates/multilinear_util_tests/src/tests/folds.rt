@@ -1,99 +1,129 @@
+//! Worked folds of one variable.
 ghost use Rattle.std.specs.Prelude.{◌≡◌, length, IfOk};
 
-use super::{Bear, Quartic, elements, table};
-use mlu_ring::{Algebra, ExtensionField, PackedFieldExtension, PackedValue};
+use super::rings::{Row, quartics, residues};
+use super::table;
+use mlu_ring::{Additive, Algebra, ExtensionField, Field, PackedValue, PrimeCharacteristicRing};
+use mlu_test_support::lanes::lanes;
+use mlu_test_support::numbers::{are, element};
 use multilinear_util::poly::Poly;
 use std::alloc::{AllocError, Global};
 use std::test::Fail;
 
 /// The polynomial with the entries 1, 2, 3, 4.
-fn counted<A: Algebra<Bear>>(alloc: Global) -> Result<Poly<A>, AllocError>
+fn counted<R: Additive>(alloc: Global) -> Result<Poly<R>, AllocError>
     ensures { IfOk result (λ poly. length poly ≡ 4) }
 {
     table(alloc, &[1, 2, 3, 4])
 }
 
-/// Whether these are the images of the numbers.
-fn is_list<A: Algebra<Bear>>(
+/// Whether the folds of a table of `A` at base elements are right.
+pub fn in_place<F: PrimeCharacteristicRing, A: Algebra<F>>(
     alloc: Global,
-    poly: &Poly<A>,
-    numbers: &[u32],
 ) -> Result<bool, AllocError> {
-    Ok(poly.as_slice() == elements(alloc, numbers)?.as_slice())
-}
-
-/// Whether the folds of one variable of a table of `A` at base elements are right.
-fn folds_at_base<A: Algebra<Bear>>(alloc: Global) -> Result<bool, AllocError> {
-    let two = Bear::from_u32(2);
     let mut prefix = counted::<A>(alloc)?;
-    prefix.fix_prefix_var_mut(two);
+    prefix.fix_prefix_var_mut(F::TWO);
     let mut suffix = counted::<A>(alloc)?;
-    suffix.fix_suffix_var_mut(two);
+    suffix.fix_suffix_var_mut(F::TWO);
     let mut split = counted::<A>(alloc)?;
-    split.fix_suffix_var_mut_split(alloc, two)?;
+    split.fix_suffix_var_mut_split(alloc, F::TWO)?;
     let mut sum = counted::<A>(alloc)?;
     sum.sum_prefix_var_mut();
     Ok(
-        is_list(alloc, &prefix, &[5, 6])?
-            && is_list(alloc, &suffix, &[3, 5])?
-            && is_list(alloc, &split, &[3, 5])?
-            && is_list(alloc, &sum, &[4, 6])?,
+        are(prefix.as_slice(), &[5, 6])
+            && are(suffix.as_slice(), &[3, 5])
+            && are(split.as_slice(), &[3, 5])
+            && are(sum.as_slice(), &[4, 6]),
     )
 }
 
 #[test]
 fn folds_in_place(rt: HostRuntime) -> Result<(), Fail> {
-    assert!(rt; folds_at_base::<Bear>(rt.alloc())?);
-    assert!(rt; folds_at_base::<Quartic>(rt.alloc())?);
+    assert!(rt; residues::<4>(rt.alloc(), Row::InPlace)?);
+    assert!(rt; quartics::<4>(rt.alloc(), Row::InPlace)?);
     Ok(())
+}
+
+/// Whether the folds of coefficients at base elements are right, down to a constant.
+pub fn coefficients<F: PrimeCharacteristicRing, A: Algebra<F>>(
+    alloc: Global,
+) -> Result<bool, AllocError> {
+    let mut poly = counted::<A>(alloc)?;
+    poly.fix_prefix_var_mut_monomial(element::<F>(9));
+    let is_folded = are(poly.as_slice(), &[28, 38]);
+    if poly.num_variables() != 1 {
+        return Ok(false);
+    }
+    poly.fix_prefix_var_mut_monomial(element::<F>(3));
+    let is_constant = are(poly.as_slice(), &[142]);
+    poly.sum_prefix_var_mut();
+    Ok(is_folded && is_constant && are(poly.as_slice(), &[142]))
+}
+
+/// Whether the coefficients fold at 2 as they must.
+pub fn coefficients_at_two<F: PrimeCharacteristicRing, A: Algebra<F>>(
+    alloc: Global,
+) -> Result<bool, AllocError> {
+    let mut poly = counted::<A>(alloc)?;
+    poly.fix_prefix_var_mut_monomial(F::TWO);
+    Ok(are(poly.as_slice(), &[7, 10]))
 }
 
 #[test]
 fn folds_coefficients(rt: HostRuntime) -> Result<(), Fail> {
-    let mut poly = counted::<Bear>(rt.alloc())?;
-    poly.fix_prefix_var_mut_monomial(Bear::from_u32(9));
-    assert!(rt; is_list(rt.alloc(), &poly, &[28, 38])?);
-    assert_eq!(rt; poly.num_variables(), 1);
-    poly.fix_prefix_var_mut_monomial(Bear::from_u32(3));
-    assert!(rt; is_list(rt.alloc(), &poly, &[142])?);
-    poly.sum_prefix_var_mut();
-    assert!(rt; is_list(rt.alloc(), &poly, &[142])?);
-    let mut other = counted::<Quartic>(rt.alloc())?;
-    other.fix_prefix_var_mut_monomial(Bear::from_u32(2));
-    assert!(rt; is_list(rt.alloc(), &other, &[7, 10])?);
+    assert!(rt; residues::<4>(rt.alloc(), Row::Coefficients)?);
+    assert!(rt; quartics::<4>(rt.alloc(), Row::CoefficientsAtTwo)?);
     Ok(())
 }
 
 /// Whether the folds of a table of base elements at an element of `A` are right.
-fn folds_base<A: Algebra<Bear>>(alloc: Global) -> Result<bool, AllocError> {
-    let poly = counted::<Bear>(alloc)?;
-    let two = A::from_base(Bear::from_u32(2));
+pub fn into_the_extension<F: PrimeCharacteristicRing, A: Algebra<F>>(
+    alloc: Global,
+) -> Result<bool, AllocError> {
+    let poly = counted::<F>(alloc)?;
+    let prefix = poly.fix_prefix_var(alloc, A::TWO)?;
+    let suffix = poly.fix_suffix_var(alloc, A::TWO)?;
     Ok(
-        is_list(alloc, &poly.fix_prefix_var(alloc, two)?, &[5, 6])?
-            && is_list(alloc, &poly.fix_suffix_var(alloc, two)?, &[3, 5])?
-            && poly.fix_prefix_var_at(two, 1) == A::from_base(Bear::from_u32(6)),
+        are(prefix.as_slice(), &[5, 6])
+            && are(suffix.as_slice(), &[3, 5])
+            && poly.fix_prefix_var_at(A::TWO, 1) == element(6),
     )
 }
 
 #[test]
 fn folds_into_the_extension(rt: HostRuntime) -> Result<(), Fail> {
-    assert!(rt; folds_base::<Bear>(rt.alloc())?);
-    assert!(rt; folds_base::<Quartic>(rt.alloc())?);
+    assert!(rt; residues::<4>(rt.alloc(), Row::IntoTheExtension)?);
+    assert!(rt; quartics::<4>(rt.alloc(), Row::IntoTheExtension)?);
     Ok(())
+}
+
+/// Whether the packed folds, of the table and of its view, have the lanes of the fold. Asks for
+/// fewer lanes than there are entries.
+pub fn to_packed<F: Field, EF: ExtensionField<F>>(alloc: Global) -> Result<bool, AllocError> {
+    let poly = table::<F>(alloc, &[1, 2, 3, 4, 5, 6, 7, 8])?;
+    if poly.num_evals() <= <F::Packing as PackedValue>::WIDTH {
+        return Ok(false);
+    }
+    let folded = poly.fix_prefix_var_to_packed(alloc, EF::TWO)?;
+    let same = poly.as_view().fix_prefix_var_to_packed(alloc, EF::TWO)?;
+    Ok(
+        has_lanes::<F, EF>(alloc, folded.as_slice(), &[9, 10, 11, 12])?
+            && has_lanes::<F, EF>(alloc, same.as_slice(), &[9, 10, 11, 12])?,
+    )
+}
+
+/// Whether the lanes are the images of the numbers.
+fn has_lanes<F: Field, EF: ExtensionField<F>>(
+    alloc: Global,
+    packed: &[EF::ExtensionPacking],
+    numbers: &[i32],
+) -> Result<bool, AllocError> {
+    Ok(are(&lanes::<F, EF>(alloc, packed)?, numbers))
 }
 
 #[test]
 fn folds_to_packed(rt: HostRuntime) -> Result<(), Fail> {
-    let poly = table::<4, Bear>(rt.alloc(), &[1, 2, 3, 4, 5, 6, 7, 8])?;
-    let folded = poly.fix_prefix_var_to_packed(rt.alloc(), Bear::from_u32(2))?;
-    let lanes = PackedValue::load(elements(rt.alloc(), &[9, 10, 11, 12])?.as_slice());
-    assert!(rt; folded.as_slice() == [lanes].as_slice());
-    let two = Quartic::from_base(Bear::from_u32(2));
-    let folded = poly.as_view().fix_prefix_var_to_packed(rt.alloc(), two)?;
-    let lanes = <Quartic as ExtensionField<Bear>>::ExtensionPacking::from_ext_slice(elements(
-        rt.alloc(),
-        &[9, 10, 11, 12],
-    )?.as_slice());
-    assert!(rt; folded.as_slice() == [lanes].as_slice());
+    assert!(rt; residues::<4>(rt.alloc(), Row::ToPacked)?);
+    assert!(rt; quartics::<4>(rt.alloc(), Row::ToPacked)?);
     Ok(())
 }

@@ -1,9 +1,11 @@
-ghost use Rattle.std.specs.Prelude.{◌≤◌};
+//! A drawn table packed, unpacked and evaluated, and values of base tables in the extension.
+ghost use Rattle.std.specs.Prelude.{◌≡◌, ◌*◌, ◌≤◌, ◌^◌, length};
 
-use super::{Quartic, elements, plain, table};
-use mlu_ext::QuarticExtension;
-use mlu_lanes::BabyBear;
-use mlu_ring::{Additive, Algebra, ExtensionField, Field, Sample};
+use super::rings::{Row, quartics, residues};
+use super::{point, table};
+use mlu_ring::{ExtensionField, Field, Sample};
+use mlu_test_support::numbers::element;
+use mlu_test_support::plain;
 use multilinear_util::point::Point;
 use multilinear_util::poly::Poly;
 use rand_core::SeedableRng;
@@ -12,49 +14,92 @@ use std::alloc::{AllocError, Global};
 use std::test::Fail;
 
 /// Whether a drawn table of five variables is packed, unpacked and evaluated as it must be.
-fn packs<F: Field, EF: ExtensionField<F> + Sample>(alloc: Global) -> Result<bool, AllocError>
+pub fn packs<F: Field, EF: ExtensionField<F> + Sample>(alloc: Global) -> Result<bool, AllocError>
     requires { F.Packing.WIDTH ≤ 32 }
 {
     let mut rng = Pcg32::seed_from_u64(1);
     let poly = Poly::<EF>::rand(alloc, &mut rng, 5)?;
     let point = Point::<EF>::rand(alloc, &mut rng, 5)?;
-    let packed = poly.pack::<F, EF>(alloc)?;
-    let mut written = Poly::<EF>::zero(alloc, 5)?;
-    packed.unpack_into::<F, EF>(&mut written);
-    let weights = plain::table(alloc, point.as_slice(), EF::ONE)?;
-    let value = plain::dot(&weights, poly.as_slice());
+    let value = plain::value(poly.as_slice(), point.as_slice());
     Ok(
-        packed.unpack::<F, EF>(alloc)? == poly
-            && written == poly
-            && packed.eval_packed::<F, EF>(alloc, &point)? == value
-            && poly.eval_ext::<F>(alloc, &point)? == value,
+        poly.eval_ext::<F>(alloc, &point)? == value
+            && unpacks::<F, EF>(alloc, &poly)?
+            && has_packed_value::<F, EF>(alloc, &poly, &point, value)?,
     )
+}
+
+/// Whether the table is unpacked as it was, into a table of its own and over zeros.
+fn unpacks<F: Field, EF: ExtensionField<F>>(
+    alloc: Global,
+    poly: &Poly<EF>,
+) -> Result<bool, AllocError>
+    requires { F.Packing.WIDTH ≤ length poly.now }
+{
+    let packed = poly.pack::<F, EF>(alloc)?;
+    let unpacked = packed.unpack::<F, EF>(alloc)?;
+    let mut written = Poly::<EF>::zero(alloc, poly.num_variables())?;
+    packed.unpack_into::<F, EF>(&mut written);
+    Ok(unpacked == *poly && written == *poly)
+}
+
+/// Whether the packed table has this value at the point.
+fn has_packed_value<F: Field, EF: ExtensionField<F>>(
+    alloc: Global,
+    poly: &Poly<EF>,
+    point: &Point<EF>,
+    value: EF,
+) -> Result<bool, AllocError>
+    requires lanes { F.Packing.WIDTH ≤ length poly.now }
+    requires size { length poly.now ≡ 2 ^ length point.now }
+{
+    let packed = poly.pack::<F, EF>(alloc)?;
+    Ok(packed.eval_packed::<F, EF>(alloc, point)? == value)
 }
 
 #[test]
 fn packs_at_widths(rt: HostRuntime) -> Result<(), Fail> {
-    assert!(rt; packs::<BabyBear<1>, BabyBear<1>>(rt.alloc())?);
-    assert!(rt; packs::<BabyBear<4>, BabyBear<4>>(rt.alloc())?);
-    assert!(rt; packs::<BabyBear<8>, BabyBear<8>>(rt.alloc())?);
+    assert!(rt; residues::<1>(rt.alloc(), Row::Packs)?);
+    assert!(rt; residues::<4>(rt.alloc(), Row::Packs)?);
+    assert!(rt; residues::<8>(rt.alloc(), Row::Packs)?);
     Ok(())
 }
 
 #[test]
 fn packs_the_extension(rt: HostRuntime) -> Result<(), Fail> {
-    assert!(rt; packs::<BabyBear<4>, Quartic>(rt.alloc())?);
-    assert!(rt; packs::<BabyBear<1>, QuarticExtension<BabyBear<1>>>(rt.alloc())?);
+    assert!(rt; quartics::<4>(rt.alloc(), Row::Packs)?);
+    assert!(rt; quartics::<1>(rt.alloc(), Row::Packs)?);
     Ok(())
+}
+
+/// Whether tables of base elements have their values at points of the extension.
+pub fn base_tables<F: Field, EF: ExtensionField<F>>(alloc: Global) -> Result<bool, AllocError> {
+    Ok(
+        has_value::<F, EF>(alloc, &[1, 2, 3, 4], &[2, 3], 8)?
+            && has_value::<F, EF>(alloc, &[25, 30], &[3], 40)?
+            && has_value::<F, EF>(alloc, &[7], &[], 7)?,
+    )
+}
+
+/// Whether the table with these entries has this value at the point with these coordinates, owned
+/// and as a view.
+fn has_value<F: Field, EF: ExtensionField<F>>(
+    alloc: Global,
+    entries: &[i32],
+    coordinates: &[i32],
+    value: i32,
+) -> Result<bool, AllocError> {
+    let poly = table::<F>(alloc, entries)?;
+    let point = point::<EF>(alloc, coordinates)?;
+    if poly.num_variables() != point.num_variables() {
+        return Ok(false);
+    }
+    let at_view = poly.as_view().eval_base(alloc, &point)?;
+    Ok(poly.eval_base(alloc, &point)? == element(value) && at_view == element(value))
 }
 
 #[test]
 fn evaluates_base_tables(rt: HostRuntime) -> Result<(), Fail> {
-    let base = table::<4, BabyBear<4>>(rt.alloc(), &[1, 2, 3, 4])?;
-    let point = Point::new(elements::<4, Quartic>(rt.alloc(), &[2, 3])?);
-    let value = base.eval_base(rt.alloc(), &point)?;
-    assert!(rt; value == Quartic::from_base(BabyBear::from_u32(8)));
-    let constant = table::<4, BabyBear<4>>(rt.alloc(), &[7])?;
-    let none = Point::<BabyBear<4>>::empty(rt.alloc());
-    let seven = constant.as_view().eval_base(rt.alloc(), &none)?;
-    assert_eq!(rt; seven, BabyBear::from_u32(7));
+    assert!(rt; residues::<4>(rt.alloc(), Row::BaseTables)?);
+    assert!(rt; quartics::<4>(rt.alloc(), Row::BaseTables)?);
     Ok(())
 }

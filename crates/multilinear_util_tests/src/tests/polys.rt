@@ -1,41 +1,64 @@
-use super::{Bear, Quartic, elements, table};
-use mlu_ring::Additive;
+//! Sizes, views, copies, growth and draws.
+
+use super::rings::{Row, quartics, residues};
+use super::table;
+use mlu_ring::{Additive, PrimeCharacteristicRing, Sample};
+use mlu_test_support::numbers::{are, element};
 use multilinear_util::poly::{Poly, PolyView};
 use rand_core::SeedableRng;
 use rand_pcg::Pcg32;
+use std::alloc::{AllocError, Global};
 use std::test::Fail;
+
+/// Whether a polynomial has the sizes, entries and copies that it is to have.
+pub fn owns<R: Additive>(alloc: Global) -> Result<bool, AllocError> {
+    let poly = table::<R>(alloc, &[1, 2, 3, 4])?;
+    let copy = poly.try_clone(alloc)?;
+    Ok(
+        poly.num_evals() == 4
+            && poly.num_variables() == 2
+            && poly.as_constant().is_none()
+            && poly.as_slice().last() == Some(&element(4))
+            && poly.iter().count() == 4
+            && copy == poly
+            && copy.as_view() == poly.as_view()
+            && are_added(&poly, copy)
+            && poly.into_evals().len() == 4,
+    )
+}
+
+/// Whether the entries of both, lent and given, add up to 20.
+fn are_added<R: Additive>(lent: &Poly<R>, given: Poly<R>) -> bool {
+    let mut sum = R::ZERO;
+    for entry in lent {
+        sum = sum + *entry;
+    }
+    for entry in given {
+        sum = sum + entry;
+    }
+    sum == element(20)
+}
 
 #[test]
 fn owned(rt: HostRuntime) -> Result<(), Fail> {
-    let poly = table::<4, Bear>(rt.alloc(), &[1, 2, 3, 4])?;
-    assert_eq!(rt; poly.num_evals(), 4);
-    assert_eq!(rt; poly.num_variables(), 2);
-    assert_eq!(rt; poly.as_constant(), None);
-    assert_eq!(rt; poly.as_slice().last(), Some(&Bear::from_u32(4)));
-    assert_eq!(rt; poly.iter().count(), 4);
-    let copy = poly.try_clone(rt.alloc())?;
-    assert!(rt; copy == poly);
-    assert!(rt; copy.as_view() == poly.as_view());
-    let mut sum = Bear::ZERO;
-    for entry in &poly {
-        sum = sum + *entry;
-    }
-    for entry in copy {
-        sum = sum + entry;
-    }
-    assert_eq!(rt; sum, Bear::from_u32(20));
-    assert_eq!(rt; poly.into_evals().len(), 4);
+    assert!(rt; residues::<4>(rt.alloc(), Row::Owned)?);
     Ok(())
+}
+
+/// Whether a constant and the zero polynomial are what they are to be.
+pub fn is_constant<R: PrimeCharacteristicRing>(alloc: Global) -> Result<bool, AllocError> {
+    let poly = table::<R>(alloc, &[7])?;
+    let zero = Poly::<R>::zero(alloc, 3)?;
+    Ok(
+        poly.num_variables() == 0
+            && poly.as_constant() == Some(element(7))
+            && are(zero.as_slice(), &[0; 8]),
+    )
 }
 
 #[test]
 fn constants(rt: HostRuntime) -> Result<(), Fail> {
-    let poly = table::<4, Quartic>(rt.alloc(), &[7])?;
-    assert_eq!(rt; poly.num_variables(), 0);
-    assert_eq!(rt; poly.as_constant().is_some(), true);
-    let zero = Poly::<Quartic>::zero(rt.alloc(), 3)?;
-    assert_eq!(rt; zero.num_evals(), 8);
-    assert!(rt; zero.iter().all(|entry| *entry == Quartic::ZERO));
+    assert!(rt; quartics::<4>(rt.alloc(), Row::Constants)?);
     Ok(())
 }
 
@@ -44,38 +67,54 @@ fn entries_of<F: Copy>(poly: &Poly<F>) -> &[F] {
     poly.as_view().as_view().into_slice()
 }
 
-#[test]
-fn views(rt: HostRuntime) -> Result<(), Fail> {
-    let poly = table::<4, Bear>(rt.alloc(), &[1, 2])?;
+/// Whether views show what is viewed.
+pub fn is_viewed<R: Additive>(alloc: Global) -> Result<bool, AllocError> {
+    let poly = table::<R>(alloc, &[1, 2])?;
     let view = PolyView::new(poly.as_slice());
     let copy = view;
-    assert!(rt; copy == poly.as_view());
-    assert_eq!(rt; view.num_evals(), 2);
-    assert_eq!(rt; view.num_variables(), 1);
-    assert_eq!(rt; view.as_constant(), None);
-    assert_eq!(rt; view.iter().count(), 2);
-    assert_eq!(rt; view.as_slice().len(), 2);
-    assert_eq!(rt; entries_of(&poly).len(), 2);
+    Ok(
+        copy == poly.as_view()
+            && view.num_evals() == 2
+            && view.num_variables() == 1
+            && view.as_constant().is_none()
+            && view.iter().count() == 2
+            && view.as_slice().len() == 2
+            && entries_of(&poly).len() == 2,
+    )
+}
+
+#[test]
+fn views(rt: HostRuntime) -> Result<(), Fail> {
+    assert!(rt; residues::<4>(rt.alloc(), Row::Views)?);
     Ok(())
+}
+
+/// Whether zeros are added and the upper half is cut off.
+pub fn changes_size<R: PrimeCharacteristicRing>(alloc: Global) -> Result<bool, AllocError> {
+    let mut poly = table::<R>(alloc, &[1, 2])?;
+    poly.pad_zeros(2)?;
+    let is_grown = are(poly.as_slice(), &[1, 2, 0, 0]);
+    poly.as_mut_slice().reverse();
+    poly.truncate_to_half();
+    Ok(is_grown && are(poly.as_slice(), &[0, 0]))
 }
 
 #[test]
 fn grows_and_shrinks(rt: HostRuntime) -> Result<(), Fail> {
-    let mut poly = table::<4, Bear>(rt.alloc(), &[1, 2])?;
-    poly.pad_zeros(2)?;
-    assert!(rt; poly.as_slice() == elements(rt.alloc(), &[1, 2, 0, 0])?.as_slice());
-    poly.as_mut_slice().reverse();
-    poly.truncate_to_half();
-    assert!(rt; poly.as_slice() == elements(rt.alloc(), &[0, 0])?.as_slice());
+    assert!(rt; residues::<4>(rt.alloc(), Row::GrowsAndShrinks)?);
     Ok(())
+}
+
+/// Whether two draws differ.
+pub fn draws_two<R: PartialEq + Copy + Sample>(alloc: Global) -> Result<bool, AllocError> {
+    let mut rng = Pcg32::seed_from_u64(1);
+    let first = Poly::<R>::rand(alloc, &mut rng, 3)?;
+    let second = Poly::<R>::rand(alloc, &mut rng, 3)?;
+    Ok(first.num_evals() == 8 && first != second)
 }
 
 #[test]
 fn draws(rt: HostRuntime) -> Result<(), Fail> {
-    let mut rng = Pcg32::seed_from_u64(1);
-    let first = Poly::<Bear>::rand(rt.alloc(), &mut rng, 3)?;
-    let second = Poly::<Bear>::rand(rt.alloc(), &mut rng, 3)?;
-    assert_eq!(rt; first.num_evals(), 8);
-    assert!(rt; first != second);
+    assert!(rt; residues::<4>(rt.alloc(), Row::Draws)?);
     Ok(())
 }

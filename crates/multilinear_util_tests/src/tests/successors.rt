@@ -1,135 +1,115 @@
-//! Weights that meet the next row: worked rows, and drawn tables against the plain sums.
-ghost use Rattle.std.specs.Prelude.{◌≡◌, ◌≤◌, ◌<◌, ◌^◌, length};
-ghost use Rattle.multilinear_util.specs.Split.{split_entries};
+//! Worked rows of weights that meet the next row.
 
-use super::{Bear, elements, plain, table};
-use mlu_lanes::BabyBear;
-use mlu_ring::{Additive, ExtensionField, Field, PrimeCharacteristicRing, Sample};
+use super::rings::{Row, residues};
+use super::{point, table};
+use mlu_ring::{Additive, ExtensionField, Field};
+use mlu_test_support::numbers::{are, element, elements};
 use multilinear_util::point::Point;
 use multilinear_util::poly::Poly;
 use multilinear_util::split_eq::SplitEq;
-use rand_pcg::Pcg32;
 use std::alloc::{AllocError, Global};
 use std::test::Fail;
 
-/// Whether a drawn polynomial meets the entries in `table` at the next rows: the one value that the
-/// moved table leaves, and the last entry times the last value.
-pub fn steps<F: Field + Sample, EF: ExtensionField<F> + Sample>(
-    alloc: Global,
-    rng: &mut Pcg32,
-    split: &SplitEq<F, EF>,
-    table: &[EF],
-    variables: usize,
-) -> Result<bool, AllocError>
-    requires size { length (split_entries EF.ring EF.ExtensionPacking.ext_lanes split.now) ≡ 2 ^ variables }
-    requires fits { 2 ^ variables < 2 ^ 64 }
-{
-    let poly = Poly::<F>::rand(alloc, rng, variables)?;
-    let images = plain::images::<F, EF>(alloc, poly.as_slice())?;
-    let steps = plain::dot(&plain::moved(alloc, table)?, &images);
-    let left = split.compress_prefix_shifted(alloc, poly.as_view())?;
-    let ends = plain::last(table) * plain::last(&images);
-    Ok(
-        left.as_constant() == Some(steps)
-            && split.last_scalar() == plain::last(table)
-            && split.eval_next_base(poly.as_view()) == steps + ends,
-    )
+/// Whether the next rows of the point (2, 3) have these weights, their value at (5, 7) is 104, and
+/// the empty point has the weight 1.
+pub fn has_next_rows<F: Field, EF: ExtensionField<F>>(alloc: Global) -> Result<bool, AllocError> {
+    let point: Vec<F> = elements(alloc, &[2, 3])?;
+    let rows = Poly::new_next_from_point(alloc, &point)?;
+    let is_table = are(rows.as_slice(), &[0, 2, -3, 2]);
+    let none = Poly::<F>::new_next_from_point(alloc, &[])?;
+    Ok(is_table && are(none.as_slice(), &[1]) && is_next_value::<F, EF>(alloc, &rows)?)
 }
 
-/// Whether a drawn polynomial of three variables more is compressed by the entries in `table`,
-/// moved up by one place.
-pub fn moves<F: Field + Sample, EF: ExtensionField<F> + Sample>(
+/// Whether the value at (5, 7) is 104.
+fn is_next_value<F: Field, EF: ExtensionField<F>>(
     alloc: Global,
-    rng: &mut Pcg32,
-    split: &SplitEq<F, EF>,
-    table: &[EF],
-    variables: usize,
-) -> Result<bool, AllocError>
-    requires size { length (split_entries EF.ring EF.ExtensionPacking.ext_lanes split.now) ≡ 2 ^ variables }
-    requires few { variables ≤ 10 }
-{
-    let poly = Poly::<F>::rand(alloc, rng, variables + 3)?;
-    let images = plain::images::<F, EF>(alloc, poly.as_slice())?;
-    let moved = plain::moved(alloc, table)?;
-    let prefix = plain::compressed_prefix(alloc, &moved, &images)?;
-    let suffix = plain::compressed_suffix(alloc, &moved, &images)?;
-    let first = split.compress_prefix_shifted(alloc, poly.as_view())?;
-    let last = split.compress_suffix_shifted(alloc, poly.as_view())?;
-    Ok(first.as_slice() == prefix.as_slice() && last.as_slice() == suffix.as_slice())
-}
-
-/// Whether the weights of a point, moved to the next rows, and a drawn polynomial at them are as
-/// the plain sums say.
-pub fn at_a_point<F: Field + Sample, EF: ExtensionField<F> + Sample>(
-    alloc: Global,
-    rng: &mut Pcg32,
-    point: &Point<EF>,
-    variables: usize,
-) -> Result<bool, AllocError>
-    requires size { length point.now ≡ variables }
-    requires few { variables ≤ 10 }
-{
-    let poly = Poly::<F>::rand(alloc, rng, variables)?;
-    let images = plain::images::<F, EF>(alloc, poly.as_slice())?;
-    let weights = plain::table(alloc, point.as_slice(), EF::ONE)?;
-    let mut next = plain::moved(alloc, &weights)?;
-    if let Some(end) = next.last_mut() {
-        *end = *end + plain::last(&weights);
+    rows: &Poly<F>,
+) -> Result<bool, AllocError> {
+    let row = point::<EF>(alloc, &[5, 7])?;
+    if rows.num_variables() != 2 {
+        return Ok(false);
     }
-    let rows = Poly::new_next_from_point(alloc, point.as_slice())?;
-    let value = poly.eval_next_base(alloc, point)?;
-    Ok(rows.as_slice() == next.as_slice() && value == plain::dot(&next, &images))
+    Ok(rows.eval_base(alloc, &row)? == element(104))
 }
 
 #[test]
 fn next_rows_of_a_point(rt: HostRuntime) -> Result<(), Fail> {
-    let point = elements::<4, Bear>(rt.alloc(), &[2, 3])?;
-    let rows = Poly::new_next_from_point(rt.alloc(), &point)?;
-    assert!(rt; rows == table(rt.alloc(), &[0, 2, 2013265918, 2])?);
-    let row = Point::new(elements::<4, Bear>(rt.alloc(), &[5, 7])?);
-    assert_eq!(rt; rows.num_variables(), 2);
-    assert_eq!(rt; rows.eval_base(rt.alloc(), &row)?, BabyBear::from_u32(104));
-    let none = Poly::<Bear>::new_next_from_point(rt.alloc(), &[])?;
-    assert!(rt; none == table(rt.alloc(), &[1])?);
+    assert!(rt; residues::<4>(rt.alloc(), Row::NextRows)?);
     Ok(())
+}
+
+/// Whether 1, 2, .., 8 meet the next rows of the point (2, 3, 5) as they must.
+pub fn meets_next_rows<F: Field, EF: ExtensionField<F>>(alloc: Global) -> Result<bool, AllocError> {
+    let poly = table::<F>(alloc, &[1, 2, 3, 4, 5, 6, 7, 8])?;
+    let point = point::<EF>(alloc, &[2, 3, 5])?;
+    let unpacked = SplitEq::<F, EF>::new_unpacked(alloc, &point, EF::ONE)?;
+    let packed = SplitEq::<F, EF>::new_packed(alloc, &point, EF::ONE)?;
+    let is_met = meets(&unpacked, &poly, -9, 30) && meets(&packed, &poly, -9, 30);
+    Ok(is_met && poly.eval_next_base(alloc, &point)? == element(-9))
+}
+
+/// Whether 3, 4 meet the next rows of the point (2), times 5, as they must.
+pub fn meets_scaled_rows<F: Field, EF: ExtensionField<F>>(
+    alloc: Global,
+) -> Result<bool, AllocError> {
+    let pair = table::<F>(alloc, &[3, 4])?;
+    let two = point::<EF>(alloc, &[2])?;
+    let scaled = SplitEq::<F, EF>::new_packed(alloc, &two, element(5))?;
+    Ok(meets(&scaled, &pair, 20, 10))
+}
+
+/// Whether the polynomial gives this sum at the next rows, where the table ends with this entry.
+fn meets<F: Field, EF: ExtensionField<F>>(
+    split: &SplitEq<F, EF>,
+    poly: &Poly<F>,
+    sum: i32,
+    end: i32,
+) -> bool {
+    if split.num_variables() != poly.num_variables() {
+        return false;
+    }
+    split.eval_next_base(poly.as_view()) == element(sum) && split.last_scalar() == element(end)
 }
 
 #[test]
 fn values_at_the_next_rows(rt: HostRuntime) -> Result<(), Fail> {
-    let poly = table::<4, Bear>(rt.alloc(), &[1, 2, 3, 4, 5, 6, 7, 8])?;
-    let point = Point::new(elements::<4, Bear>(rt.alloc(), &[2, 3, 5])?);
-    let value = BabyBear::from_u32(2013265912);
-    assert_eq!(rt; poly.eval_next_base(rt.alloc(), &point)?, value);
-    let unpacked = SplitEq::<Bear, Bear>::new_unpacked(rt.alloc(), &point, Bear::ONE)?;
-    assert_eq!(rt; unpacked.eval_next_base(poly.as_view()), value);
-    assert_eq!(rt; unpacked.last_scalar(), BabyBear::from_u32(30));
-    let packed = SplitEq::<Bear, Bear>::new_packed(rt.alloc(), &point, Bear::ONE)?;
-    assert_eq!(rt; packed.eval_next_base(poly.as_view()), value);
-    assert_eq!(rt; packed.last_scalar(), BabyBear::from_u32(30));
-    let pair = table::<4, Bear>(rt.alloc(), &[3, 4])?;
-    let two = Point::new(elements::<4, Bear>(rt.alloc(), &[2])?);
-    let scaled = SplitEq::<Bear, Bear>::new_packed(rt.alloc(), &two, BabyBear::from_u32(5))?;
-    assert_eq!(rt;
-        scaled.eval_next_base(pair.as_view()),
-        BabyBear::from_u32(20)
-    );
+    assert!(rt; residues::<4>(rt.alloc(), Row::ValuesAtTheNextRows)?);
+    assert!(rt; residues::<4>(rt.alloc(), Row::ScaledNextRows)?);
     Ok(())
+}
+
+/// Whether 1, 2, 3, 4 are compressed as they must be by the moved table of (2), at the first
+/// coordinate.
+pub fn moves_prefix<F: Field, EF: ExtensionField<F>>(alloc: Global) -> Result<bool, AllocError> {
+    let poly = table::<F>(alloc, &[1, 2, 3, 4])?;
+    let two = point::<EF>(alloc, &[2])?;
+    let split = SplitEq::<F, EF>::new_packed(alloc, &two, EF::ONE)?;
+    let left = split.compress_prefix_shifted(alloc, poly.as_view())?;
+    Ok(are(left.as_slice(), &[-3, -4]))
+}
+
+/// Whether 1, 2, 3, 4 are compressed as they must be by the moved table of (3), at the last
+/// coordinate.
+pub fn moves_suffix<F: Field, EF: ExtensionField<F>>(alloc: Global) -> Result<bool, AllocError> {
+    let poly = table::<F>(alloc, &[1, 2, 3, 4])?;
+    let three = point::<EF>(alloc, &[3])?;
+    let split = SplitEq::<F, EF>::new_packed(alloc, &three, EF::ONE)?;
+    let left = split.compress_suffix_shifted(alloc, poly.as_view())?;
+    Ok(are(left.as_slice(), &[-4, -8]))
+}
+
+/// Whether the moved table of the empty point leaves zeros of 1, 2, 3, 4.
+pub fn moves_constant<F: Field, EF: ExtensionField<F>>(alloc: Global) -> Result<bool, AllocError> {
+    let poly = table::<F>(alloc, &[1, 2, 3, 4])?;
+    let split = SplitEq::<F, EF>::new_packed(alloc, &Point::empty(alloc), EF::ONE)?;
+    let left = split.compress_prefix_shifted(alloc, poly.as_view())?;
+    Ok(are(left.as_slice(), &[0, 0, 0, 0]))
 }
 
 #[test]
 fn compressed_by_the_moved_table(rt: HostRuntime) -> Result<(), Fail> {
-    let poly = table::<4, Bear>(rt.alloc(), &[1, 2, 3, 4])?;
-    let two = Point::new(elements::<4, Bear>(rt.alloc(), &[2])?);
-    let first = SplitEq::<Bear, Bear>::new_packed(rt.alloc(), &two, Bear::ONE)?;
-    let prefix = first.compress_prefix_shifted(rt.alloc(), poly.as_view())?;
-    assert!(rt; prefix == table(rt.alloc(), &[2013265918, 2013265917])?);
-    let three = Point::new(elements::<4, Bear>(rt.alloc(), &[3])?);
-    let last = SplitEq::<Bear, Bear>::new_packed(rt.alloc(), &three, Bear::ONE)?;
-    let suffix = last.compress_suffix_shifted(rt.alloc(), poly.as_view())?;
-    assert!(rt; suffix == table(rt.alloc(), &[2013265917, 2013265913])?);
-    let none = Point::<Bear>::empty(rt.alloc());
-    let constant = SplitEq::<Bear, Bear>::new_packed(rt.alloc(), &none, Bear::ONE)?;
-    let nothing = constant.compress_prefix_shifted(rt.alloc(), poly.as_view())?;
-    assert!(rt; nothing == table(rt.alloc(), &[0, 0, 0, 0])?);
+    assert!(rt; residues::<4>(rt.alloc(), Row::MovedPrefix)?);
+    assert!(rt; residues::<4>(rt.alloc(), Row::MovedSuffix)?);
+    assert!(rt; residues::<4>(rt.alloc(), Row::MovedConstant)?);
     Ok(())
 }

@@ -1,6 +1,6 @@
-use Rattle.std.proofs.Common.{◌*◌, ◌∙◌, length, ap, sym}
+use Rattle.std.proofs.Common.{◌*◌, ◌∙◌, length, ap}
 use Rattle.multilinear_util.proofs.Packed.{length-packed}
-use Rattle.multilinear_util_tests.proofs.tests.splits.accumulates.Goals as goal
+use Rattle.multilinear_util_tests.proofs.tests.splits.accumulates_lanes.Goals as goal
 
 pub accumulate_into_packed-requires : goal.accumulate_into_packed-requires
 accumulate_into_packed-requires g c =
@@ -8,6 +8,5 @@ accumulate_into_packed-requires g c =
     let lanes = g.EF.ExtensionPacking.PackedFieldExtension.ext_lanes in
     let long = g.met.EF.ExtensionPacking.PackedFieldExtension.lanes_are.length-parts in
     ap (λ l. length l * width) c.as_mut_slice-places.ensures.value
-    ∙ length-packed lanes width long c.in_ok-lanes.lanes c.in_ok-before.before c.in_ok-lanes.ensures
-    ∙ c.in_ok-before.ensures
-    ∙ sym c.requires.size
+    ∙ length-packed lanes width long c.in_ok-lanes.lanes c.args.before.now c.in_ok-lanes.ensures
+    ∙ c.requires
