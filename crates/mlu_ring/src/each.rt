@@ -1,4 +1,4 @@
-//! Operations on slices, place by place: the loops under the operators of lanes and products.
+//! Operations on slices, place by place.
 ghost use Rattle.std.specs.Prelude.{◌≡◌, length, map};
 ghost use Rattle.std.specs.Simd.Lanes.{zip2};
 
