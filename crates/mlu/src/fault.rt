@@ -1,3 +1,4 @@
+//! Faults, their texts and statuses.
 ghost use Rattle.std.specs.Prelude.{◌≡◌};
 ghost use Rattle.mlu.specs.Faults.{fault_text, fault_status};
 
@@ -43,7 +44,7 @@ impl Fault {
         }
     }
 
-    /// The status that the program ends with.
+    /// The status that the program ends with: 3 for [`Fault::Memory`], 2 for the others.
     pub fn status(self) -> u8
         ensures { result ≡ fault_status self }
     {

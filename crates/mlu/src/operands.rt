@@ -25,6 +25,10 @@ fn variables(entries: usize) -> Option<usize>
 }
 
 /// A table, and a point with as many coordinates as the table has variables.
+///
+/// # Errors
+/// The first fault: a word that is no text of a list, no power of two of entries, another number of
+/// coordinates, want of memory.
 pub fn table_and_point(
     alloc: Global,
     table: &str,
@@ -44,6 +48,10 @@ pub fn table_and_point(
 }
 
 /// A table that has a variable, and a number to put it at.
+///
+/// # Errors
+/// The first fault: a word that is no text of a list or no decimal, no power of two of entries, no
+/// variable, want of memory.
 pub fn table_and_number(
     alloc: Global,
     table: &str,
@@ -61,7 +69,10 @@ pub fn table_and_number(
     Ok((Poly::new(table), number))
 }
 
-/// A point whose vertices can be counted in a word.
+/// A point whose vertices can be counted in a `usize`: fewer than 64 coordinates.
+///
+/// # Errors
+/// The first fault: a word that is no text of a list, more coordinates, want of memory.
 pub fn short_point(alloc: Global, point: &str) -> Result<Point<Element>, Fault>
     ensures { IsOutcome (IsText point.now) IsShort StandsAlone (λ x read. read ≡ x) result }
 {

@@ -1,5 +1,5 @@
 //! The value of a table by other routes than the polynomial's own call. Each asks for a point with
-//! as many coordinates as there are variables.
+//! as many coordinates as there are variables, and fails where memory is refused.
 ghost use Rattle.std.specs.Prelude.{◌≡◌, ◌^◌, length, map, IfOk};
 ghost use Rattle.mlu_ring.specs.Tables.{value};
 

@@ -17,7 +17,7 @@ fn has_plain_start(word: &str) -> bool
     !word.starts_with('+') && (word.len() == 1 || !word.starts_with('0'))
 }
 
-/// The element of which the word is the decimal.
+/// The element of which the word is the decimal, and `None` exactly where it is that of none.
 pub fn number(word: &str) -> Option<Element>
     ensures { MatchOption result (IsNoDecimal word.now) (λ x. decimal_of x ≡ word.now) }
 {
@@ -31,7 +31,8 @@ pub fn number(word: &str) -> Option<Element>
     }
 }
 
-/// How many entries the list has of which the word is the text. Takes no memory.
+/// How many entries the list has of which the word is the text, and `None` exactly where it is that of
+/// none. Takes no memory.
 pub fn count(word: &str) -> Option<usize>
     ensures { MatchOption result (IsNoList word.now) (λ n. IsTextOf n word.now) }
 {
@@ -47,6 +48,9 @@ pub fn count(word: &str) -> Option<usize>
 }
 
 /// The list of which the word is the text. Asks for such a word, and for the number of entries.
+///
+/// # Errors
+/// Where memory is refused.
 pub fn read(alloc: Global, word: &str, n: usize) -> Result<Vec<Element>, AllocError>
     requires { IsTextOf n word.now }
     ensures text { IfOk result (λ list. text list.items ≡ word.now) }
@@ -63,6 +67,9 @@ pub fn read(alloc: Global, word: &str, n: usize) -> Result<Vec<Element>, AllocEr
 }
 
 /// The line of a list: its text and a line feed.
+///
+/// # Errors
+/// Where memory is refused.
 pub fn line(alloc: Global, list: &[Element]) -> Result<Vec<u8>, AllocError>
     ensures { IfOk result (λ bytes. bytes.items ≡ line_of list.now) }
 {
@@ -80,6 +87,9 @@ pub fn line(alloc: Global, list: &[Element]) -> Result<Vec<u8>, AllocError>
 }
 
 /// A line for each element.
+///
+/// # Errors
+/// Where memory is refused.
 pub fn lines(alloc: Global, elements: &[Element]) -> Result<Vec<u8>, AllocError>
     ensures { IfOk result (λ bytes. bytes.items ≡ lines_of elements.now) }
 {

@@ -1,5 +1,6 @@
 -- Tables compressed by a split table: rows added up by groups, and rows paired one by one.
-use Rattle.std.proofs.Common.{◌≡◌, ℕ, zero, suc, ◌+◌, ◌*◌, ◌/◌, ◌<◌, List, [], ◌∷◌, map, length, take, drop, set, get_or, replicate, refl, sym, ap, ◌∙◌, arith}
+use Rattle.std.proofs.Common.{◌≡◌, ℕ, zero, suc, ◌+◌, ◌*◌, ◌/◌, ◌<◌, List, [], ◌∷◌, ◌++◌, map, length, take, drop, set, get_or, replicate, refl, sym, subst, ap, ◌∙◌, arith}
+use Rattle.std.proofs.Math.Seq.{take-append_seam}
 use Rattle.std.proofs.Math.Nat.{mul_assoc, mul-div_cancel, mul-div_cancel_left, zero-div}
 use Rattle.std.proofs.lemmas.List.{ext_get_or, get_or-drop, length-map, length-replicate, length-take-le}
 use Rattle.mlu_ring.specs.Ring.{Ring, RingLaws}
@@ -10,7 +11,7 @@ use Rattle.mlu_ring.proofs.SumsBelow.{sum_below-same}
 use Rattle.mlu_ring.proofs.Totals.{pair-take}
 use Rattle.mlu_ring.proofs.Univariate.{length-front}
 use Rattle.mlu_kernel.specs.Kernels.{plus_rows}
-use Rattle.mlu_kernel.proofs.PlusRows.{plus_rows-append, plus_rows-front}
+use Rattle.mlu_kernel.proofs.PlusRows.{length-plus_rows, plus_rows-append, plus_rows-front}
 use Rattle.mlu_eq.specs.Split.{contents}
 use Rattle.mlu_eq.proofs.Contents.{length-contents, contents-take_more}
 use Rattle.mlu_eq.proofs.Zipped.{zip_zeros}
@@ -76,3 +77,24 @@ module _ {R : Type 0} (ring : Ring R) (laws : RingLaws ring) where
       ∙ sum_below-same ring n (λ z. get_or w z 𝟘 ⊗ get_or (drop (k * n) e) z 𝟘) (λ z. get_or w z 𝟘 ⊗ get_or e (k * n + z) 𝟘)
       (λ z q. ap (λ t. get_or w z 𝟘 ⊗ t) (get_or-drop (k * n) e z 𝟘))
       ∙ sym (back-entry ring laws w e k m rows (omega arith)))
+
+-- compressions by the table t, or by a moved one
+module _ {B R : Type 0} (ring : Ring R) (laws : RingLaws ring) (embed : B → R) (moved : List R → List R) (same : (t : List R) → 0 < length t → length (moved t) ≡ length t)
+    (t c : List R) (shown : c ≡ t) (some : 0 < length t) (e values : List B) (is : values ≡ e) (n : ℕ) (size : length e ≡ length t * n) where
+  -- rows that are added to zeros
+  pub compressed : (zeros new : List R) → zeros ≡ replicate n ring.zero → new ≡ plus_rows ring zeros (moved c) (map embed values) → new ≡ front ring (moved t) (map embed e)
+  compressed zeros new zeroed made =
+      let long = same t some in
+      front-written ring laws n (moved t) (map embed e) zeros new zeroed
+      (subst (λ m. 0 < m) (sym long) some)
+      (length-map e embed ∙ size ∙ ap (λ m. m * n) (sym long))
+      (made ∙ ap (λ x. plus_rows ring zeros (moved x) (map embed values)) shown ∙ ap (λ v. plus_rows ring zeros (moved t) (map embed v)) is)
+
+  -- .. and are then the whole output
+  pub compressed_into : (old zeros new : List R) → zeros ≡ old → old ≡ replicate n ring.zero → new ≡ plus_rows ring zeros (moved c) (map embed values)
+      → take (length old) (new ++ drop (length new) old) ≡ front ring (moved t) (map embed e)
+  compressed_into old zeros new whole zeroed made =
+      let count : length old ≡ length new = ap length (sym whole) ∙ sym (ap length made ∙ length-plus_rows ring laws zeros _ _) in
+      ap (λ m. take m (new ++ drop (length new) old)) count
+      ∙ take-append_seam new (drop (length new) old)
+      ∙ compressed zeros new (whole ∙ zeroed) made

@@ -1,10 +1,10 @@
 -- Tables in two halves: the rows of their entries, and what the kernels sum over them.
-use Rattle.std.proofs.Common.{◌≡◌, ℕ, zero, suc, ◌+◌, ◌*◌, ◌/◌, ◌%◌, ◌^◌, ◌<◌, ◌≤◌, List, ◌++◌, map, length, length-append, take, drop, get_or, sym, ap, ◌∙◌, arith}
+use Rattle.std.proofs.Common.{◌≡◌, ℕ, zero, suc, ◌+◌, ◌*◌, ◌/◌, ◌%◌, ◌^◌, ◌<◌, ◌≤◌, List, [], ◌∷◌, ◌++◌, refl, map, length, length-append, take, drop, get_or, sym, ap, ◌∙◌, arith}
 use Rattle.std.proofs.Math.Nat.{mul-le-mul_right, div-lt_iff_lt-mul, mod-lt}
 use Rattle.std.proofs.lemmas.Nat.{div-mul-add, mod-mul-add, div-add-mod', pow-add}
-use Rattle.std.proofs.lemmas.List.{ext_get_or, get_or_default, get_or-take, get_or-drop, get_or-map, length-map, length-take, length-drop}
+use Rattle.std.proofs.lemmas.List.{ext_get_or, get_or_default, get_or-take, get_or-drop, get_or-map, map-append, length-map, length-take, length-drop}
 use Rattle.std.proofs.lemmas.List.FromFn.{get_or-map-range_with_len, length-map-range_with_len}
-use Rattle.mlu_ring.specs.Ring.{Ring, RingLaws}
+use Rattle.mlu_ring.specs.Ring.{Ring, RingLaws, IsRingMap}
 use Rattle.mlu_ring.specs.Sums.{sum_below}
 use Rattle.mlu_ring.specs.Tables.{weight, weights, pair}
 use Rattle.mlu_ring.specs.Lanes.{logical}
@@ -156,3 +156,24 @@ module _ {R : Type 0} (ring : Ring R) (laws : RingLaws ring) where
       ∙ laws.product_assoc s (weight ring a (x / n)) (weight ring b (x % n))
       ∙ ap (ring.product s) (sym (weight-joined ring laws a b (x / n) (x % n) column) ∙ ap (weight ring (a ++ b)) (div-add-mod' x n))
       ∙ sym (get_or-map (ring.product s) (weights ring (a ++ b)) x 𝟘 𝟘 (omega (arith, length-weights (a ++ b))) ∙ ap (ring.product s) (get_or-weights (a ++ b) x whole)))
+
+module _ {B R : Type 0} (base : Ring B) (ring : Ring R) (f : B → R) (keeps : IsRingMap base ring f) where
+  -- the images of a row
+  row-images : (x : B) (w : List B) → map f (map (base.product x) w) ≡ map (ring.product (f x)) (map f w)
+  row-images x [] = refl
+  row-images x (y ∷ w) =
+      let first = keeps.product x y in
+      let rest = row-images x w in
+      cc (first, rest)
+
+  rows-images : (eq0 w : List B) → map f (logical (λ x. map (base.product x) w) eq0) ≡ logical (λ x. map (ring.product x) (map f w)) (map f eq0)
+  rows-images [] w = refl
+  rows-images (x ∷ eq0) w =
+      map-append f (map (base.product x) w) (logical (λ x. map (base.product x) w) eq0)
+      ∙ ap (λ t. t ++ map f (logical (λ x. map (base.product x) w) eq0)) (row-images x w)
+      ∙ ap (λ t. map (ring.product (f x)) (map f w) ++ t) (rows-images eq0 w)
+
+  -- the images of the entries are the entries of the images of the halves
+  pub contents-images : (eq0 w : List B) → contents ring (map f eq0) (map f w) ≡ map f (contents base eq0 w)
+  contents-images eq0 w =
+      contents-rows ring (map f eq0) (map f w) ∙ sym (rows-images eq0 w) ∙ ap (map f) (sym (contents-rows base eq0 w))

@@ -5,8 +5,10 @@ pub mod Contents
 pub mod Evaluations
 pub mod Folds
 pub mod Groups
+pub mod Halves
 pub mod Lengths
 pub mod Moved
 pub mod Products
+pub mod RowsMapped
 pub mod Shifted
 pub mod Zipped

@@ -1,3 +1,3 @@
 pub mod Combine
+pub mod Half
 pub mod Split
-pub mod Weights

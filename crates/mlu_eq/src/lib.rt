@@ -5,8 +5,9 @@
 //! of the first variable, so it joins the two halves; a suffix fold puts it in place of the last
 //! one, so it joins entries side by side.
 //!
-//! [`EqMaybePacked`] has the weights of the second half of a split table, as scalars or packed, and
-//! the kernels over the whole table: dots, accumulations, and the compressions of a table by it.
+//! [`EqMaybePacked`] has the weights of the second half of a split table, as scalars or packed;
+//! [`half`] makes it. The kernels over both halves stand in [`split`]: dots, accumulations, and the
+//! compressions of a table.
 //!
 //! The calls over slices are stated by the definitions of `mlu_ring` alone: the value, `front` and
 //! `back`. Nothing takes memory but the calls that are handed an allocator.
@@ -15,16 +16,17 @@
 #![tactic(auto)]
 
 mod evaluation;
+pub mod half;
 pub mod laws;
 mod line;
 mod prefix;
+pub mod split;
 mod suffix;
-mod weights;
 
 pub use evaluation::{eval_base, eval_ext};
+pub use half::EqMaybePacked;
 pub use prefix::{
     fold_monomial_in_place, fold_prefix, fold_prefix_at, fold_prefix_in_place,
     fold_prefix_to_packed, sum_halves_in_place,
 };
 pub use suffix::{fold_suffix, fold_suffix_by_base, fold_suffix_in_place};
-pub use weights::{EqMaybePacked, images};

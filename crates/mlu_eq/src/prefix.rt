@@ -44,7 +44,7 @@ pub fn fold_prefix_at<F: Additive, EF: Algebra<F>>(entries: &[F], r: EF, index: 
 
 /// The table folded at `r`, in packed form: its entries are the lanes, joined in order.
 ///
-/// Asks for a whole number of packings in half a table.
+/// Asks for a whole number of packings in half a table: `W` divides `length / 2`.
 ///
 /// # Errors
 /// Where the memory for half a table is refused.
@@ -54,7 +54,8 @@ pub fn fold_prefix_to_packed<F: Field, EF: ExtensionField<F>>(
     r: EF,
 ) -> Result<Vec<EF::ExtensionPacking>, AllocError>
     requires { (length entries.now / 2) % F.Packing.WIDTH ≡ 0 }
-    ensures { IfOk result (λ folded. logical EF.ExtensionPacking.ext_lanes folded.items ≡ front EF.ring (line EF.ring r) (map EF.embed entries.now)) }
+    ensures { IfOk result (λ folded. logical EF.ExtensionPacking.ext_lanes folded.items
+        ≡ front EF.ring (line EF.ring r) (map EF.embed entries.now)) }
 {
     let width = <F::Packing as PackedValue>::WIDTH;
     let groups = entries.len() / 2 / width;
@@ -73,7 +74,8 @@ fn fold_group_at<F: Field, EF: ExtensionField<F>>(
     start: usize,
 ) -> EF::ExtensionPacking
     requires { start + F.Packing.WIDTH ≤ length entries.now / 2 }
-    ensures { EF.ExtensionPacking.ext_lanes result ≡ take F.Packing.WIDTH (drop start (front EF.ring (line EF.ring r) (map EF.embed entries.now))) }
+    ensures { EF.ExtensionPacking.ext_lanes result
+        ≡ take F.Packing.WIDTH (drop start (front EF.ring (line EF.ring r) (map EF.embed entries.now))) }
 {
     let end = start + <F::Packing as PackedValue>::WIDTH;
     let (low, high) = entries.split_at(entries.len() / 2);
@@ -85,6 +87,7 @@ fn fold_group_at<F: Field, EF: ExtensionField<F>>(
 }
 
 /// Folds the table at `r` into its lower half: entry `i` becomes `low[i] + r * (high[i] - low[i])`.
+/// What the other places then hold is not promised.
 pub fn fold_prefix_in_place<R: Additive, F: Algebra<R>>(entries: &mut [F], r: R)
     ensures { take (length entries.old / 2) entries.new ≡ front F.ring (line F.ring (F.embed r)) entries.old }
 {
@@ -94,8 +97,8 @@ pub fn fold_prefix_in_place<R: Additive, F: Algebra<R>>(entries: &mut [F], r: R)
     }
 }
 
-/// Folds the table at `r` into its lower half, its entries read as coefficients of monomials:
-/// entry `i` becomes `low[i] + r * high[i]`.
+/// As [`fold_prefix_in_place`], the entries read as coefficients of monomials: entry `i` becomes
+/// `low[i] + r * high[i]`.
 pub fn fold_monomial_in_place<R: Additive, F: Algebra<R>>(entries: &mut [F], r: R)
     ensures { take (length entries.old / 2) entries.new ≡ front F.ring (F.ring.one ∷ F.embed r ∷ []) entries.old }
 {
@@ -105,7 +108,7 @@ pub fn fold_monomial_in_place<R: Additive, F: Algebra<R>>(entries: &mut [F], r: 
     }
 }
 
-/// Adds the upper half of the table to its lower half.
+/// As [`fold_prefix_in_place`], with the sum of both halves: entry `i` becomes `low[i] + high[i]`.
 pub fn sum_halves_in_place<F: Additive>(entries: &mut [F])
     ensures { take (length entries.old / 2) entries.new ≡ front F.ring (F.ring.one ∷ F.ring.one ∷ []) entries.old }
 {

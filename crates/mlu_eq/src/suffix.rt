@@ -27,10 +27,7 @@ pub fn fold_suffix<F: Additive, EF: Algebra<F>>(
     Ok(folded)
 }
 
-/// The table folded at a base element `r`.
-///
-/// # Errors
-/// Where the memory for half a table is refused.
+/// As [`fold_suffix`], at the image of a base element `r`.
 pub fn fold_suffix_by_base<R: Additive, F: Algebra<R>>(
     alloc: Global,
     entries: &[F],
@@ -47,6 +44,7 @@ pub fn fold_suffix_by_base<R: Additive, F: Algebra<R>>(
 }
 
 /// Folds the table at `r` into its lower half: entry `i` becomes `e[2i] + r * (e[2i + 1] - e[2i])`.
+/// What the other places then hold is not promised.
 pub fn fold_suffix_in_place<R: Additive, F: Algebra<R>>(entries: &mut [F], r: R)
     ensures { take (length entries.old / 2) entries.new ≡ back F.ring (line F.ring (F.embed r)) entries.old }
 {

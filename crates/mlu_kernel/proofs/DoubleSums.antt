@@ -1,13 +1,10 @@
 -- Double sums, one row at a time.
-use Rattle.std.proofs.Common.{◌≡◌, ℕ, ◌+◌, ◌*◌, ◌/◌, ◌<◌, ◌≤◌, List, [], ◌∷◌, map, length, take, drop, get_or, replicate, sym, ap, ◌∙◌, arith}
+use Rattle.std.proofs.Common.{◌≡◌, ℕ, ◌+◌, ◌*◌, ◌<◌, ◌≤◌, List, [], ◌∷◌, length, take, drop, get_or, replicate, sym, ap, ◌∙◌, arith}
 use Rattle.std.proofs.lemmas.List.{get_or-take, get_or-drop, get_or_default, length-take-le}
-use Rattle.std.proofs.Math.Nat.{div-zero, mul-div_cancel}
-use Rattle.std.specs.List.{range_with_len}
 use Rattle.mlu_ring.specs.Ring.{Ring, RingLaws}
 use Rattle.mlu_ring.specs.Sums.{sum_of, sum_below}
 use Rattle.mlu_ring.specs.Lanes.{IsLists, IsLaneByLane}
-use Rattle.mlu_ring.specs.Tables.{pair, back}
-use Rattle.mlu_ring.proofs.Joined.{back-entry}
+use Rattle.mlu_ring.specs.Tables.{pair}
 use Rattle.mlu_ring.proofs.SumsBelow.{sum_below-same, sum_below-product, sum_below-zero}
 use Rattle.mlu_ring.proofs.Totals.{sum_below-more, pair-take, total-sum, total-splat}
 use Rattle.mlu_kernel.specs.Kernels.{double_sum}
@@ -37,27 +34,7 @@ module _ {R : Type 0} (ring : Ring R) (laws : RingLaws ring) where
       (λ i q. rw (get_or-drop (j * n) e i 𝟘) (laws.product_assoc _ _ _))
       ∙ sum_below-product ring laws n (get_or rows j 𝟘) (λ i. get_or w i 𝟘 ⊗ get_or (drop (j * n) e) i 𝟘))
 
-  -- the entry of back at j is the dot of w with row j
-  back-row : (w e : List R) (m j : ℕ) → length e ≡ m * length w → j < m → get_or (back ring w e) j 𝟘 ≡ pair ring w (drop (j * length w) e)
-  unfolding back pair
-  back-row [] e m j h q =
-      let entry = λ (y : ℕ). sum_below ring 0 (λ z. 𝟘 ⊗ get_or e (y * 0 + z) 𝟘) in
-      ap (λ k. get_or (map entry (range_with_len 0 k)) j 𝟘) (div-zero (length e)) ∙ sym (sum_below-zero ring (λ z. 𝟘 ⊗ get_or (drop (j * 0) e) z 𝟘))
-  back-row (x ∷ w) e m j h q =
-      let n = length (x ∷ w) in
-      let some : 0 < length (x ∷ w) = omega arith in
-      back-entry ring laws (x ∷ w) e j m (ap (λ k. k / n) h ∙ mul-div_cancel m some) q
-      ∙ sum_below-same ring n (λ z. get_or (x ∷ w) z 𝟘 ⊗ get_or e (j * n + z) 𝟘) (λ z. get_or (x ∷ w) z 𝟘 ⊗ get_or (drop (j * n) e) z 𝟘)
-      (λ z r. ap (λ t. get_or (x ∷ w) z 𝟘 ⊗ t) (sym (get_or-drop (j * n) e z 𝟘)))
-
-  -- the weights of the rows paired with the rows, each compressed by w
-  pub double_sum-back : (rows w e : List R) → length e ≡ length rows * length w → double_sum ring rows w e ≡ pair ring rows (back ring w e)
-  unfolding pair
-  double_sum-back rows w e h =
-      double_sum-rows rows w e
-      ∙ sum_below-same ring (length rows) (λ j. get_or rows j 𝟘 ⊗ pair ring w (drop (j * length w) e)) (λ j. get_or rows j 𝟘 ⊗ get_or (back ring w e) j 𝟘)
-      (λ j q. ap (λ t. get_or rows j 𝟘 ⊗ t) (sym (back-row w e (length rows) j h q)))
-
+  -- one more row
   pub double_sum-take_more : (rows w e : List R) (j : ℕ) (d : R) → j < length rows → double_sum ring (take (j + 1) rows) w e ≡ double_sum ring (take j rows) w e ⊕ (get_or rows j d ⊗ pair ring w (take (length w) (drop (j * length w) e)))
   double_sum-take_more rows w e j d h =
       let term = λ (k : ℕ). get_or rows k 𝟘 ⊗ pair ring w (drop (k * length w) e) in

@@ -1,5 +1,6 @@
 -- Weighted rows added to a list.
-use Rattle.std.proofs.Common.{◌≡◌, ℕ, suc, ◌+◌, ◌*◌, ◌/◌, ◌<◌, ◌≤◌, List, [], ◌∷◌, ◌++◌, map, length, take, drop, set, get_or, replicate, refl, sym, ap, ◌∙◌, arith}
+use Rattle.std.proofs.Common.{◌≡◌, ℕ, ◌+◌, ◌*◌, ◌/◌, ◌<◌, ◌≤◌, List, [], ◌∷◌, ◌++◌, map, length, take, drop, set, get_or, replicate, refl, sym, ap, ◌∙◌, arith}
+use mathlib.Core.Path.{fun_ext}
 use Rattle.std.specs.Simd.Lanes.{zip2}
 use Rattle.std.proofs.Math.Nat.{mul-le-mul_right, mul-div_cancel_left, mul_assoc}
 use Rattle.std.proofs.lemmas.List.{ext_get_or, get_or-take, get_or-drop, get_or-map, length-map, length-take-le, take_more, map-append, take-map, drop-map}
@@ -11,9 +12,9 @@ use Rattle.mlu_ring.specs.Tables.{front}
 use Rattle.mlu_ring.specs.Lanes.{IsLists, IsLaneByLane, logical}
 use Rattle.mlu_ring.proofs.Rings.{sum_zero}
 use Rattle.mlu_ring.proofs.Joined.{front-entry}
-use Rattle.mlu_ring.proofs.SumsBelow.{sum_below-same, sum_below-zero, sum_below-suc}
+use Rattle.mlu_ring.proofs.SumsBelow.{sum_below-same, sum_below-zero}
 use Rattle.mlu_ring.proofs.Logical.{length-logical, logical-take_more, zip_block_more}
-use Rattle.mlu_ring.proofs.Totals.{weighted-append}
+use Rattle.mlu_ring.proofs.Totals.{sum_below-one, weighted-append}
 use Rattle.mlu_kernel.specs.Kernels.{plus_rows}
 
 within : (y m z s : ℕ) → y < m → z < s → y * s + z < m * s
@@ -21,13 +22,6 @@ within y m z s h q =
     let le : y + 1 ≤ m = omega arith in
     let step : (y + 1) * s ≤ m * s = mul-le-mul_right s le in
     omega arith
-
-map_same : {A B : Type 0} (f g : A → B) (xs : List A) → ((x : A) → f x ≡ g x) → map f xs ≡ map g xs
-map_same f g [] h = refl
-map_same f g (x ∷ xs) h =
-    let first = h x in
-    let rest = map_same f g xs h in
-    cc (first, rest)
 
 module _ {R : Type 0} (ring : Ring R) (laws : RingLaws ring) where
   infixl 50 ◌⊕◌
@@ -50,36 +44,32 @@ module _ {R : Type 0} (ring : Ring R) (laws : RingLaws ring) where
   unfolding plus_rows
   get_or-plus_rows old w e z h = get_or-map-range_with_len (λ z. get_or old z 𝟘 ⊕ column (length old) w e z) 0 (length old) z z 𝟘 h (omega arith)
 
+  -- a list with the entries of plus_rows
+  plus_rows_by_entry : (old w e sums : List R) → length sums ≡ length old → ((z : ℕ) → z < length old → get_or sums z 𝟘 ≡ get_or old z 𝟘 ⊕ column (length old) w e z) → sums ≡ plus_rows ring old w e
+  plus_rows_by_entry old w e sums long at =
+      ext_get_or 𝟘 sums (plus_rows ring old w e) (long ∙ sym (length-plus_rows old w e)) (λ z q. let place : z < length old = omega arith in at z place ∙ sym (get_or-plus_rows old w e z place))
+
   -- no weights, or no places
   pub plus_rows-none : (old w e : List R) → length w * length old ≡ 0 → plus_rows ring old w e ≡ old
   plus_rows-none old [] e h =
-      ext_get_or 𝟘 (plus_rows ring old [] e) old (length-plus_rows old [] e)
-      (λ z q.
-      let place : z < length old = omega (arith, length-plus_rows old [] e) in
-      get_or-plus_rows old [] e z place ∙ ap (λ t. get_or old z 𝟘 ⊕ t) (sum_below-zero ring (λ y. 𝟘 ⊗ get_or e (y * length old + z) 𝟘)) ∙ sum_zero ring laws (get_or old z 𝟘))
-  plus_rows-none old (x ∷ w) e h =
-      let none : length old ≡ 0 = omega arith in
-      ext_get_or 𝟘 (plus_rows ring old (x ∷ w) e) old (length-plus_rows old (x ∷ w) e) (λ z q. absurd (omega (arith, length-plus_rows old (x ∷ w) e)))
+      sym (plus_rows_by_entry old [] e old refl (λ z q. sym (ap (λ t. get_or old z 𝟘 ⊕ t) (sum_below-zero ring (λ y. 𝟘 ⊗ get_or e (y * length old + z) 𝟘)) ∙ sum_zero ring laws (get_or old z 𝟘))))
+  plus_rows-none old (x ∷ w) e h = sym (plus_rows_by_entry old (x ∷ w) e old refl (λ z q. absurd (omega arith)))
 
   -- weights in two parts, each with its rows
   pub plus_rows-append : (old v w e : List R) (s : ℕ) → length old ≡ s → plus_rows ring (plus_rows ring old v e) w (take (length w * s) (drop (length v * s) e)) ≡ plus_rows ring old (v ++ w) e
   plus_rows-append old v w e s is =
       let first = plus_rows ring old v e in
       let rest = take (length w * s) (drop (length v * s) e) in
-      let long : length (plus_rows ring old v e) ≡ s = length-plus_rows old v e ∙ is in
-      let both = length-plus_rows (plus_rows ring old v e) w (take (length w * s) (drop (length v * s) e)) in
-      ext_get_or 𝟘 (plus_rows ring first w rest) (plus_rows ring old (v ++ w) e) (both ∙ length-plus_rows old v e ∙ sym (length-plus_rows old (v ++ w) e))
+      let long = length-plus_rows old v e in
+      plus_rows_by_entry old (v ++ w) e (plus_rows ring first w rest) (length-plus_rows first w rest ∙ long)
       (λ z q.
-      let place : z < s = omega (arith, both) in
-      let old_place : z < length old = omega arith in
-      let first_place : z < length (plus_rows ring old v e) = omega arith in
-      get_or-plus_rows first w rest z first_place
-      ∙ ap (λ t. t ⊕ column (length first) w rest z) (get_or-plus_rows old v e z old_place)
+      let place : z < s = omega arith in
+      get_or-plus_rows first w rest z (omega (arith, long))
+      ∙ ap (λ t. t ⊕ column (length first) w rest z) (get_or-plus_rows old v e z q)
       ∙ ap (λ k. (get_or old z 𝟘 ⊕ column (length old) v e z) ⊕ column k w rest z) long
-      ∙ ap (λ k. (get_or old z 𝟘 ⊕ column k v e z) ⊕ column s w rest z) is
-      ∙ laws.sum_assoc (get_or old z 𝟘) (column s v e z) (column s w rest z)
-      ∙ ap (λ t. get_or old z 𝟘 ⊕ t)
-      (ap (λ t. column s v e z ⊕ t)
+      ∙ laws.sum_assoc (get_or old z 𝟘) (column (length old) v e z) (column (length old) w rest z)
+      ∙ ap (λ k. get_or old z 𝟘 ⊕ (column k v e z ⊕ column k w rest z)) is
+      ∙ ap (λ t. get_or old z 𝟘 ⊕ (column s v e z ⊕ t))
       (sum_below-same ring (length w) (λ y. get_or w y 𝟘 ⊗ get_or rest (y * s + z) 𝟘) (λ y. get_or w y 𝟘 ⊗ get_or e ((length v + y) * s + z) 𝟘)
       (λ y r.
       let at : length v * s + (y * s + z) ≡ (length v + y) * s + z = omega arith in
@@ -87,22 +77,18 @@ module _ {R : Type 0} (ring : Ring R) (laws : RingLaws ring) where
       (get_or-take (length w * s) (drop (length v * s) e) (y * s + z) 𝟘 (within y (length w) z s r place)
       ∙ get_or-drop (length v * s) e (y * s + z) 𝟘
       ∙ ap (λ k. get_or e k 𝟘) at)))
-      ∙ sym (weighted-append ring laws v w (λ y. get_or e (y * s + z) 𝟘)))
-      ∙ sym (get_or-plus_rows old (v ++ w) e z old_place ∙ ap (λ k. get_or old z 𝟘 ⊕ column k (v ++ w) e z) is))
+      ∙ ap (λ t. get_or old z 𝟘 ⊕ t) (sym (weighted-append ring laws v w (λ y. get_or e (y * s + z) 𝟘)))
+      ∙ ap (λ k. get_or old z 𝟘 ⊕ column k (v ++ w) e z) (sym is))
 
   -- some weights: the old entries plus the compression of the rows
   pub plus_rows-front : (old w e : List R) → 0 < length w → length e ≡ length w * length old → plus_rows ring old w e ≡ zip2 ring.sum old (front ring w e)
   plus_rows-front old w e some h =
       let rows : length e / length w ≡ length old = ap (λ k. k / length w) h ∙ mul-div_cancel_left (length old) some in
-      let long : length old ≡ length (front ring w e) = sym (length-front w e ∙ rows) in
-      let zipped = length-zip2 ring.sum old (front ring w e) long in
-      ext_get_or 𝟘 (plus_rows ring old w e) (zip2 ring.sum old (front ring w e)) (length-plus_rows old w e ∙ sym zipped)
+      let long = length-front w e ∙ rows in
+      sym (plus_rows_by_entry old w e (zip2 ring.sum old (front ring w e)) (length-zip2 ring.sum old (front ring w e) (sym long))
       (λ z q.
-      let place : z < length old = omega (arith, length-plus_rows old w e) in
-      let front_place : z < length (front ring w e) = omega arith in
-      get_or-plus_rows old w e z place
-      ∙ ap (λ t. get_or old z 𝟘 ⊕ t) (sym (front-entry ring laws w e z (length old) rows place))
-      ∙ sym (get_or-zip2 ring.sum old (front ring w e) z 𝟘 𝟘 𝟘 place front_place))
+      get_or-zip2 ring.sum old (front ring w e) z 𝟘 𝟘 𝟘 q (omega (arith, long))
+      ∙ ap (λ t. get_or old z 𝟘 ⊕ t) (front-entry ring laws w e z (length old) rows q)))
 
   -- one more weight with its row
   pub plus_rows-take_more : (old w e between : List R) (k s : ℕ) (x : R) → k < length w → length old ≡ s → x ≡ get_or w k x → between ≡ plus_rows ring old (take k w) e → plus_rows ring between (x ∷ []) (take s (drop (k * s) e)) ≡ plus_rows ring old (take (k + 1) w) e
@@ -118,22 +104,16 @@ module _ {R : Type 0} (ring : Ring R) (laws : RingLaws ring) where
   -- one row
   pub zip2-row : (old e : List R) (x : R) → length old ≡ length e → zip2 ring.sum old (map (ring.product x) e) ≡ plus_rows ring old (x ∷ []) e
   zip2-row old e x h =
-      let long : length old ≡ length (map (ring.product x) e) = h ∙ sym (length-map e (ring.product x)) in
-      let zipped = length-zip2 ring.sum old (map (ring.product x) e) long in
-      ext_get_or 𝟘 (zip2 ring.sum old (map (ring.product x) e)) (plus_rows ring old (x ∷ []) e) (zipped ∙ sym (length-plus_rows old (x ∷ []) e))
+      let row = map (ring.product x) e in
+      let long = length-map e (ring.product x) in
+      plus_rows_by_entry old (x ∷ []) e (zip2 ring.sum old row) (length-zip2 ring.sum old row (h ∙ sym long))
       (λ z q.
-      let place : z < length old = omega (arith, zipped) in
-      let row_place : z < length e = omega arith in
-      let map_place : z < length (map (ring.product x) e) = omega arith in
       let at : 0 * length old + z ≡ z = omega arith in
-      get_or-zip2 ring.sum old (map (ring.product x) e) z 𝟘 𝟘 𝟘 place map_place
+      get_or-zip2 ring.sum old row z 𝟘 𝟘 𝟘 q (omega (arith, long))
       ∙ ap (λ t. get_or old z 𝟘 ⊕ t)
-      (get_or-map (ring.product x) e z 𝟘 𝟘 row_place
+      (get_or-map (ring.product x) e z 𝟘 𝟘 (omega arith)
       ∙ ap (λ k. x ⊗ get_or e k 𝟘) (sym at)
-      ∙ sym (sum_below-suc ring 0 (λ y. get_or (x ∷ []) y 𝟘 ⊗ get_or e (y * length old + z) 𝟘)
-      ∙ ap (λ t. (x ⊗ get_or e (0 * length old + z) 𝟘) ⊕ t) (sum_below-zero ring (λ y. get_or (x ∷ []) (suc y) 𝟘 ⊗ get_or e (suc y * length old + z) 𝟘))
-      ∙ sum_zero ring laws (x ⊗ get_or e (0 * length old + z) 𝟘)))
-      ∙ sym (get_or-plus_rows old (x ∷ []) e z place))
+      ∙ sym (sum_below-one ring laws (λ y. get_or (x ∷ []) y 𝟘 ⊗ get_or e (y * length old + z) 𝟘))))
 
 module _ {P V : Type 0} (packed : Ring P) (ring : Ring V) (laws : RingLaws ring) (lanes : P → List V) (of_lanes : List V → P) (n : ℕ) (parts : IsLists n lanes of_lanes) (each : IsLaneByLane n lanes packed ring) where
   lanes-splat_product : (q b : P) (x : V) → lanes q ≡ replicate n x → lanes (packed.product q b) ≡ map (ring.product x) (lanes b)
@@ -158,7 +138,7 @@ module _ {P V : Type 0} (packed : Ring P) (ring : Ring V) (laws : RingLaws ring)
       each.product p b
       ∙ ap (λ vs. zip2 ring.product (lanes p) vs) is
       ∙ zip2_splat ring.product (lanes p) n x (parts.length-parts p)
-      ∙ map_same (λ y. ring.product y x) (ring.product x) (lanes p) (λ y. laws.product_comm y x)
+      ∙ ap (λ f. map f (lanes p)) (fun_ext (λ y. laws.product_comm y x))
 
   -- one more packed weight, scaled, with a row for each of its lanes
   pub rows_more : (ps : List P) (old e between : List V) (i r : ℕ) (x : V) (p b : P) → i < length ps → r ≡ n * length old

@@ -12,9 +12,8 @@
 #![tactic(auto)]
 
 mod dot;
+pub mod one_row;
 mod prefix;
 
-pub use dot::{compress_hi_dot_packed, compress_hi_dot_packed_eager, lane_total, packed_dot};
-pub use prefix::{
-    add_row, compress_prefix_to_packed_packed, compress_prefix_to_packed_packed_kernel_eager,
-};
+pub use dot::{compress_hi_dot_packed, compress_hi_dot_packed_eager};
+pub use prefix::{compress_prefix_to_packed_packed, compress_prefix_to_packed_packed_kernel_eager};

@@ -1,9 +1,12 @@
 //! Packed weights of rows, whose weighted rows are added to a packed output.
-ghost use Rattle.std.specs.Prelude.{◌≡◌, ◌∷◌, [], ◌*◌, length, map};
+ghost use Rattle.std.specs.Prelude.{◌≡◌, ◌*◌, length, map};
 ghost use Rattle.mlu_ring.specs.Lanes.{logical};
 ghost use Rattle.mlu_kernel.specs.Kernels.{plus_rows};
 
-use mlu_ring::{Algebra, ExtensionField, Field, Lanewise, PackedFieldExtension, PackedValue};
+use crate::one_row::add_row_times;
+use mlu_ring::{
+    Algebra, ExtensionField, Field, Lanewise, PackedFieldExtension, PackedValue, row_of,
+};
 
 /// Adds to logical `out[z]` the sum over logical `i` of `w0 * eq1[i] * chunk[i * s + z]`, where
 /// `s` is the logical length of `out`. An empty `out` and no weights change nothing.
@@ -37,55 +40,23 @@ pub fn compress_prefix_to_packed_packed_kernel_eager<F: Field, EF: ExtensionFiel
         ≡ plus_rows EF.ring (logical EF.ExtensionPacking.ext_lanes out.old)
         (map (EF.ring.product w0) (logical EF.ExtensionPacking.ext_lanes eq1.now)) (map EF.embed chunk.now) }
 {
-    if eq1.is_empty() {
-        return;
-    }
-    let width = F::Packing::WIDTH;
-    let row_length = out.len() * width;
-    let rows_length = width * row_length;
     for i in 0..eq1.len() {
-        let start = i * rows_length;
-        let weights = eq1[i].scale(w0);
-        add_rows::<F, EF>(out, weights, &chunk[start..start + rows_length], row_length);
+        add_rows_by_lane::<F, EF>(out, eq1[i].scale(w0), row_of(chunk, eq1.len(), i));
     }
 }
 
 /// Adds a row for each lane of `weights`, times that lane.
-fn add_rows<F: Field, EF: ExtensionField<F>>(
+fn add_rows_by_lane<F: Field, EF: ExtensionField<F>>(
     out: &mut [EF::ExtensionPacking],
     weights: EF::ExtensionPacking,
     rows: &[F],
-    row_length: usize,
 )
-    requires row { row_length ≡ length out.old * F.Packing.WIDTH }
-    requires rows { length rows.now ≡ F.Packing.WIDTH * row_length }
+    requires { length rows.now ≡ F.Packing.WIDTH * (length out.old * F.Packing.WIDTH) }
     ensures { logical EF.ExtensionPacking.ext_lanes out.new
         ≡ plus_rows EF.ring (logical EF.ExtensionPacking.ext_lanes out.old)
         (EF.ExtensionPacking.ext_lanes weights) (map EF.embed rows.now) }
 {
     for k in 0..F::Packing::WIDTH {
-        let start = k * row_length;
-        add_row::<F, EF>(out, weights.ext_lane(k), &rows[start..start + row_length]);
-    }
-}
-
-/// Adds a row, times its weight, to a packed output. Asks for as many entries as `out` has lanes.
-#[inline]
-pub fn add_row<F: Field, EF: ExtensionField<F>>(
-    out: &mut [EF::ExtensionPacking],
-    weight: EF,
-    row: &[F],
-)
-    requires { length row.now ≡ length out.old * F.Packing.WIDTH }
-    ensures { logical EF.ExtensionPacking.ext_lanes out.new
-        ≡ plus_rows EF.ring (logical EF.ExtensionPacking.ext_lanes out.old)
-        (weight ∷ []) (map EF.embed row.now) }
-{
-    let width = F::Packing::WIDTH;
-    let weights = EF::ExtensionPacking::from_base(weight);
-    for z in 0..out.len() {
-        let start = z * width;
-        let block = F::Packing::load(&row[start..start + width]);
-        out[z] = out[z] + weights.scale(block);
+        add_row_times::<F, EF>(out, weights.ext_lane(k), row_of(rows, F::Packing::WIDTH, k));
     }
 }

@@ -21,3 +21,10 @@ pub mod Folds
 pub mod PowersOfTwo
 pub mod Logical
 pub mod CallsInTurn
+pub mod EntrywiseLaws
+pub mod Resized
+pub mod Tabulated
+pub mod LaneMaps
+pub mod TrivialExtension
+pub mod Modulo
+pub mod Filled

@@ -16,12 +16,14 @@ module _ {R : Type 0} (ring : Ring R) (laws : RingLaws ring) where
   infixl 60 ◌⊗◌
   open ring use {sum as ◌⊕◌, product as ◌⊗◌, zero as 𝟘, one as 𝟙}
 
+  pub sum_below-one : (f : ℕ → R) → sum_below ring 1 f ≡ f 0
+  sum_below-one f = sum_below-suc ring 0 f ∙ ap (λ t. f 0 ⊕ t) (sum_below-zero ring (λ k. f (suc k))) ∙ sum_zero ring laws (f 0)
+
   -- the last of n + 1 numbers
   pub sum_below-more : (n : ℕ) (f : ℕ → R) → sum_below ring (n + 1) f ≡ sum_below ring n f ⊕ f n
   sum_below-more n f =
       let at : n + 0 ≡ n = omega arith in
-      sum_below-add ring laws n 1 f
-      ∙ ap (λ t. sum_below ring n f ⊕ t) (sum_below-suc ring 0 (λ k. f (n + k)) ∙ ap (λ t. f (n + 0) ⊕ t) (sum_below-zero ring (λ k. f (n + suc k))) ∙ sum_zero ring laws (f (n + 0)) ∙ ap f at)
+      sum_below-add ring laws n 1 f ∙ ap (λ t. sum_below ring n f ⊕ t) (sum_below-one (λ k. f (n + k)) ∙ ap f at)
 
   pub sum_of-append : (xs ys : List R) → sum_of ring (xs ++ ys) ≡ sum_of ring xs ⊕ sum_of ring ys
   sum_of-append [] ys = sym (laws.zero_sum (sum_of ring ys))

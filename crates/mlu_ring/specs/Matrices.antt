@@ -1,5 +1,5 @@
 -- Matrices row after row, and the points in their columns.
-use Rattle.std.specs.Prelude.{◌≡◌, ℕ, ◌+◌, ◌-◌, ◌*◌, ◌/◌, List, [], ◌∷◌, Bool, map, length, slice_index_or, if◌then◌else◌}
+use Rattle.std.specs.Prelude.{◌≡◌, ℕ, ◌+◌, ◌-◌, ◌*◌, ◌/◌, List, [], ◌∷◌, Bool, map, length, take, drop, slice_index_or, if◌then◌else◌}
 use Rattle.std.specs.List.{range_with_len}
 use Rattle.std.specs.Simd.Lanes.{zip2}
 use Rattle.mlu_ring.specs.Ring.{Ring}
@@ -9,6 +9,10 @@ use Rattle.mlu_ring.specs.Tables.{weight}
 -- n values are whole rows of the width; at width 0 there are none, since a quotient by 0 is 0
 abbrev pub AreRows : ℕ → ℕ → Type 0
 AreRows n width = n ≡ n / width * width
+
+-- row j of the values cut into rows of the width
+abbrev pub row_at : {A : Type 0} → ℕ → List A → ℕ → List A
+row_at width values j = take width (drop (j * width) values)
 
 -- the number of coordinates of the first point, and 0 where there is none
 abbrev pub dimension : {R : Type 0} → List (List R) → ℕ

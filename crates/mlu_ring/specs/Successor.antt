@@ -1,6 +1,7 @@
 -- The successor of an index, and the table whose weights it has moved.
 use Rattle.std.specs.Prelude.{ℕ, ◌∷◌, ◌+◌, ◌-◌, ◌==◌, List, map, length, take, slice_index_or, min, if◌then◌else◌}
 use Rattle.std.specs.List.{range_with_len}
+use Rattle.std.specs.Simd.Lanes.{zip2}
 use Rattle.mlu_ring.specs.Ring.{Ring}
 use Rattle.mlu_ring.specs.Sums.{sum_below}
 
@@ -21,3 +22,7 @@ moved_up x w = x ∷ take (length w - 1) w
 -- zero in front of all weights but the last
 abbrev pub shifted : {R : Type 0} → Ring R → List R → List R
 shifted ring w = moved_up ring.zero w
+
+-- each weight times a, and the one before it times b: before the first stands the boundary
+abbrev pub next_chunk : {R : Type 0} → Ring R → R → R → R → List R → List R
+next_chunk ring a b boundary w = zip2 ring.sum (map (ring.product a) w) (moved_up boundary (map (ring.product b) w))

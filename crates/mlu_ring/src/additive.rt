@@ -1,3 +1,4 @@
+//! Rings as far as their sums go: addition, subtraction and negation.
 ghost use Rattle.std.specs.Prelude.{◌≡◌, ◌↔◌, IsTrue, length};
 ghost use Rattle.std.specs.Simd.Lanes.{zip2};
 ghost use Rattle.mlu_ring.specs.Ring.{Ring, RingLaws};

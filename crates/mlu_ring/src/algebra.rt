@@ -1,10 +1,11 @@
+//! Rings that another ring embeds in, and is a scalar of.
 ghost use Rattle.std.specs.Prelude.{◌≡◌};
 ghost use Rattle.mlu_ring.specs.Ring.{IsRingMap};
 
 use crate::additive::Additive;
 use crate::ring::PrimeCharacteristicRing;
 
-/// A ring with an embedding of the ring `B`.
+/// A ring with an embedding of the ring `B`, which keeps zero, one, sums and products.
 pub trait Algebra<B: Additive>: PrimeCharacteristicRing {
     ghost embed: { B → Self };
 

@@ -1,3 +1,4 @@
+//! Maps from one ring to another that come with a type.
 ghost use Rattle.std.specs.Prelude.{◌≡◌};
 ghost use Rattle.mlu_ring.specs.Ring.{IsRingMap};
 

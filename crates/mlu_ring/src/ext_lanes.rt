@@ -1,3 +1,4 @@
+//! The lanes of packed values, one after the other.
 ghost use Rattle.std.specs.Prelude.{◌≡◌};
 ghost use Rattle.std.specs.Iterator.{YieldsFirst, item_count};
 ghost use Rattle.mlu_ring.specs.Lanes.{logical};
@@ -8,7 +9,8 @@ use crate::packed::{Lanewise, PackedValue};
 use std::iter::FusedIterator;
 use std::marker::{Model, PhantomData};
 
-/// An iterator over the lanes of packed values, in order. Contracts see the lanes that are left.
+/// An iterator over the lanes of packed values, in order. Contracts see the lanes that are left:
+/// `next` gives the first of them, and `None` where there is none.
 ///
 /// Made by [`PackedFieldExtension::to_ext_iter`].
 #[derive(Drop)]

@@ -1,6 +1,7 @@
+//! Extensions of a field by their coefficients, and their packed forms.
 ghost use Rattle.std.specs.Prelude.{◌≡◌, ◌<◌, ℕ, List, length, map, replicate, slice_index_or, slice_set};
 ghost use Rattle.std.specs.Simd.Lanes.{zip2};
-ghost use Rattle.mlu_ring.specs.Calls.{CalledInTurn};
+ghost use Rattle.mlu_ring.specs.Calls.{AreAllowed, CalledInTurn};
 ghost use Rattle.mlu_ring.specs.Lanes.{IsLists, IsLaneByLane, logical};
 
 use crate::additive::Additive;
@@ -34,10 +35,13 @@ pub trait ExtensionField<F: Field>: Field + Algebra<F> {
         requires { k < DIMENSION }
         ensures { coefficients self.new ≡ slice_set (coefficients self.old) k c };
 
-    /// The element whose coefficient `k` is `f(k)`, which is called for 0, 1, .. in order.
+    /// The element whose coefficient `k` is `f(k)`. `f` is called once for each of 0, 1, .. in order,
+    /// in the state that the call before left. Asks that each of these calls is allowed wherever
+    /// those before it lead.
     final fn from_coefficients_fn<G: FnMut(usize) -> F>(mut f: G) -> Self
-        requires { (state : G) (k : ℕ) → G.pre state k }
-        ensures { (after : G) × CalledInTurn (λ s k c t. G.step s k c t) DIMENSION (λ k. slice_index_or (coefficients result) k F.ring.zero) f after }
+        requires { AreAllowed (λ s k. G.pre s k) (λ s k c t. G.step s k c t) DIMENSION f }
+        ensures { (after : G) × CalledInTurn (λ s k c t. G.step s k c t) DIMENSION
+            (λ k. slice_index_or (coefficients result) k F.ring.zero) f after }
     {
         let mut element = Self::ZERO;
         for k in 0..Self::DIMENSION {
@@ -51,11 +55,16 @@ pub trait ExtensionField<F: Field>: Field + Algebra<F> {
 
     ghost coefficients_sum: { (a b : Self) → coefficients (Self.ring.sum a b) ≡ zip2 F.ring.sum (coefficients a) (coefficients b) };
 
-    ghost coefficients_scale: { (a : Self) (f : F) → coefficients (Self.ring.product a (Self.embed f)) ≡ map (λ c. F.ring.product c f) (coefficients a) };
+    ghost coefficients_scale: { (a : Self) (f : F) → coefficients (Self.ring.product a (Self.embed f))
+        ≡ map (λ c. F.ring.product c f) (coefficients a) };
 }
 
 /// The packed form of the extension `EF` of `F`: as many elements of `EF` side by side as a
 /// packing of `F` has lanes.
+///
+/// Coefficient `c` of lane `k` is lane `k` of packed coefficient `c`, and the operators work lane by
+/// lane. An element of `EF` stands for itself in every lane, and a packing of `F` for the images of
+/// its lanes.
 pub trait PackedFieldExtension<F: Field, EF: ExtensionField<F>>: PrimeCharacteristicRing
     + Algebra<EF>
     + Algebra<F::Packing> {
@@ -92,10 +101,12 @@ pub trait PackedFieldExtension<F: Field, EF: ExtensionField<F>>: PrimeCharacteri
         requires { k < EF.DIMENSION }
         ensures { packed_coefficients self.new ≡ slice_set (packed_coefficients self.old) k c };
 
-    /// The packed value whose coefficient `k` is `f(k)`, which is called for 0, 1, .. in order.
+    /// The packed value whose coefficient `k` is `f(k)`. `f` is called, and asked, as by
+    /// [`ExtensionField::from_coefficients_fn`].
     final fn from_packed_coefficients_fn<G: FnMut(usize) -> F::Packing>(mut f: G) -> Self
-        requires { (state : G) (k : ℕ) → G.pre state k }
-        ensures { (after : G) × CalledInTurn (λ s k c t. G.step s k c t) EF.DIMENSION (λ k. slice_index_or (packed_coefficients result) k F.Packing.ring.zero) f after }
+        requires { AreAllowed (λ s k. G.pre s k) (λ s k c t. G.step s k c t) EF.DIMENSION f }
+        ensures { (after : G) × CalledInTurn (λ s k c t. G.step s k c t) EF.DIMENSION
+            (λ k. slice_index_or (packed_coefficients result) k F.Packing.ring.zero) f after }
     {
         let mut packed = Self::ZERO;
         for k in 0..EF::DIMENSION {

@@ -1,3 +1,4 @@
+//! Rings with a packed form, and sums of four products in them.
 ghost use Rattle.std.specs.Prelude.{◌≡◌, ◌<◌, ◌^◌, ℕ, length, map};
 ghost use Rattle.mlu_ring.specs.Lanes.{splat_of};
 ghost use Rattle.mlu_ring.specs.Tables.{pair};
@@ -9,7 +10,7 @@ use crate::ring::PrimeCharacteristicRing;
 pub trait Field: Lanewise + PrimeCharacteristicRing {
     ghost bytes_of: { ℕ };
 
-    /// The bytes of one element.
+    /// The bytes of one element, as the implementation states them.
     fn bytes() -> usize
         ensures { result ≡ bytes_of };
 

@@ -13,14 +13,15 @@
 mod additive;
 mod algebra;
 mod conversion;
-pub mod each;
 mod ext_lanes;
 mod extension;
 mod field;
 mod logarithm;
 mod matrix;
 mod packed;
+pub mod place_by_place;
 mod ring;
+mod row;
 mod sample;
 
 pub use additive::Additive;
@@ -33,4 +34,5 @@ pub use logarithm::{log2_ceil_usize, log2_strict_usize};
 pub use matrix::{RowMajorMatrix, RowMajorMatrixView};
 pub use packed::{Lanewise, PackedValue};
 pub use ring::PrimeCharacteristicRing;
+pub use row::{row_of, row_of_width, row_range};
 pub use sample::Sample;

@@ -1,3 +1,4 @@
+//! Logarithms of sizes to the base 2.
 ghost use Rattle.std.specs.Prelude.{◌≡◌, ◌^◌, ◌≤◌, ℕ, IsTrue};
 ghost use Rattle.std.specs.Int.{is_power_of_two};
 

@@ -1,6 +1,8 @@
-ghost use Rattle.std.specs.Prelude.{◌≡◌, ◌+◌, ◌*◌, ◌/◌, ◌<◌, ◌≤◌, ⊤, length, take, drop, slice_range};
-ghost use Rattle.mlu_ring.specs.Matrices.{AreRows};
+//! Matrices whose values stand row after row, owned and borrowed.
+ghost use Rattle.std.specs.Prelude.{◌≡◌, ◌*◌, ◌/◌, ◌<◌, ◌≤◌, ⊤, length, take, drop};
+ghost use Rattle.mlu_ring.specs.Matrices.{AreRows, row_at};
 
+use crate::row::row_of_width;
 use std::alloc::AllocError;
 
 /// A matrix that owns its values, row after row.
@@ -19,6 +21,7 @@ pub struct RowMajorMatrixView<'a, F> {
     ghost rows: { AreRows (length values.now) width },
 }
 
+/// The same view, never an error.
 impl<F> Clone for RowMajorMatrixView<'_, F> {
     ghost is_clone = { λ a b. a ≡ b };
 
@@ -32,8 +35,7 @@ impl<F> Clone for RowMajorMatrixView<'_, F> {
 impl<F> Copy for RowMajorMatrixView<'_, F> {}
 
 impl<F: Copy> RowMajorMatrix<F> {
-    /// The matrix with these values. Asks that the width divides their number, and that there are
-    /// none at width 0.
+    /// As [`RowMajorMatrixView::new`].
     pub fn new(values: Vec<F>, width: usize) -> Self
         requires { AreRows (length values.items) width }
         ensures values { result.values ≡ values }
@@ -60,22 +62,22 @@ impl<F: Copy> RowMajorMatrix<F> {
         self.as_view().width()
     }
 
-    /// The number of rows, which is 0 at width 0.
+    /// As [`RowMajorMatrixView::height`].
     pub fn height(&self) -> usize
         ensures { result ≡ length self.now.values.items / self.now.width }
     {
         self.as_view().height()
     }
 
-    /// Row `i`. Asks that `i` is below the height.
+    /// As [`RowMajorMatrixView::row`].
     pub fn row(&self, i: usize) -> &[F]
         requires { i < length self.now.values.items / self.now.width }
-        ensures { result.now ≡ slice_range self.now.values.items (i * self.now.width) (i * self.now.width + self.now.width) }
+        ensures { result.now ≡ row_at self.now.width self.now.values.items i }
     {
         self.as_view().row(i)
     }
 
-    /// The first `i` rows, and the rows from there on. Asks that `i` is at most the height.
+    /// As [`RowMajorMatrixView::split_rows`].
     pub fn split_rows(&self, i: usize) -> (RowMajorMatrixView<'_, F>, RowMajorMatrixView<'_, F>)
         requires { i ≤ length self.now.values.items / self.now.width }
         ensures first { result.0.values.now ≡ take (i * self.now.width) self.now.values.items }
@@ -123,10 +125,9 @@ impl<'a, F: Copy> RowMajorMatrixView<'a, F> {
     /// Row `i`. Asks that `i` is below the height.
     pub fn row(&self, i: usize) -> &'a [F]
         requires { i < length self.now.values.now / self.now.width }
-        ensures { result.now ≡ slice_range self.now.values.now (i * self.now.width) (i * self.now.width + self.now.width) }
+        ensures { result.now ≡ row_at self.now.width self.now.values.now i }
     {
-        let start = i * self.width;
-        &self.values[start..start + self.width]
+        row_of_width(self.values, self.width, i)
     }
 
     /// The first `i` rows, and the rows from there on. Asks that `i` is at most the height.

@@ -1,9 +1,10 @@
+//! Values side by side in one value, and the elements that have such a form.
 ghost use Rattle.std.specs.Prelude.{◌≡◌, ◌<◌, ◌^◌, ℕ, List, length, replicate, slice_index_or};
 ghost use Rattle.mlu_ring.specs.Lanes.{IsLists, IsLaneByLane};
 
 use crate::additive::Additive;
 
-/// `WIDTH` values of one type side by side, in one value.
+/// `WIDTH` values of one type side by side: a packed value is the list of its lanes.
 pub trait PackedValue: Additive {
     type Value: Copy + Eq;
 

@@ -1,3 +1,4 @@
+//! Commutative rings with one.
 ghost use Rattle.std.specs.Prelude.{◌≡◌, ◌∷◌, [], IfOk, if◌then◌else◌, replicate};
 ghost use Rattle.mlu_ring.specs.Tables.{pair};
 

@@ -1,3 +1,4 @@
+//! Elements drawn at random.
 use rand::RngExt;
 
 /// Elements that a generator of random numbers can draw. Which one comes is not promised.

@@ -10,17 +10,42 @@ use Rattle.std.specs.Int.Count.{count_trailing_zeros}
 use Rattle.mlu_ring.proofs.PowersOfTwo.{power_of_test, exponent_fits}
 use Rattle.mlu_ring.specs.Ring.{Ring, RingLaws}
 use Rattle.mlu_ring.specs.Tables.{weights, pair, value}
+use Rattle.mlu_eq.specs.Half.{Half}
 use Rattle.mlu_eq.specs.Split.{contents}
 use Rattle.mlu_eq.proofs.Contents.{length-contents, contents-weights}
 use Rattle.mlu_point.proofs.Equality.{length-weights}
 use Rattle.mlu_point.proofs.Tables.{map-one}
+use Rattle.multilinear_util.specs.Split.{Split, split_entries}
 use Rattle.multilinear_util.proofs.Lengths.{exponents, quotient_of_powers}
 use Rattle.multilinear_util.proofs.Scaled.{pair-weights}
 
-module _ {R : Type 0} (ring : Ring R) where
-  -- as many entries as the whole table has, by its halves
-  pub halves-size : (eq0 w slice : List R) (n : ℕ) → slice ≡ eq0 → n ≡ length (contents ring eq0 w) → n ≡ length slice * length w
-  halves-size eq0 w slice n is h = h ∙ length-contents ring eq0 w ∙ ap (λ l. length l * length w) (sym is)
+-- rows as long as the output, for each entry of a table
+pub rows_of-powers : (eq0 w out e k n : ℕ) → eq0 * w ≡ 2 ^ k → e ≡ 2 ^ n → out ≡ 2 ^ (n - k) → 2 ^ k ≤ 2 ^ n → e ≡ eq0 * (w * out)
+rows_of-powers eq0 w out e k n size sized is le =
+    sized ∙ quotient_of_powers n k le ∙ mul_comm (2 ^ (n - k)) (2 ^ k) ∙ ap (λ m. m * 2 ^ (n - k)) (sym size) ∙ mul_assoc eq0 w (2 ^ (n - k)) ∙ ap (λ m. eq0 * (w * m)) (sym is)
+
+pub size_of-powers : (c e k n : ℕ) → c ≡ 2 ^ k → e ≡ 2 ^ n → 2 ^ k ≤ 2 ^ n → e ≡ c * 2 ^ (n - k)
+size_of-powers c e k n size sized le = sized ∙ quotient_of_powers n k le ∙ mul_comm (2 ^ (n - k)) (2 ^ k) ∙ ap (λ m. m * 2 ^ (n - k)) (sym size)
+
+pub some_of-power : (c k : ℕ) → c ≡ 2 ^ k → 0 < c
+some_of-power c k size = subst (λ m. 0 < m) (sym size) (pow_pos k)
+
+-- a table with at most as many entries as another, where both have a power of two
+pub fewer : (c e k n : ℕ) → c ≡ 2 ^ k → e ≡ 2 ^ n → c ≤ e → 2 ^ k ≤ 2 ^ n
+fewer c e k n size sized le = subst (λ m. m ≤ 2 ^ n) size (subst (λ m. c ≤ m) sized le)
+
+module _ {R : Type 0} (ring : Ring R) (split : Split R) (slice : List R) (half : Half R) (first : slice ≡ split.eq0) (second : half ≡ split.eq1) where
+  -- the halves, as the kernels take them, have the entries of the table
+  pub halves-entries : contents ring slice half.weights ≡ split_entries ring split
+  halves-entries = ap (λ e. contents ring e half.weights) first ∙ ap (λ h. contents ring split.eq0 h.weights) second
+
+  pub halves-size : (n : ℕ) → n ≡ length (split_entries ring split) → n ≡ length slice * length half.weights
+  halves-size n is = is ∙ ap length (sym halves-entries) ∙ length-contents ring slice half.weights
+
+  -- there is a row, as long as the output, for each entry of the table
+  pub halves-rows : (k n values out : ℕ) → length (split_entries ring split) ≡ 2 ^ k → values ≡ 2 ^ n → out ≡ 2 ^ (n - k) → 2 ^ k ≤ 2 ^ n → values ≡ length slice * (length half.weights * out)
+  halves-rows k n values out size sized is le =
+      rows_of-powers (length slice) (length half.weights) out values k n (sym (halves-size (2 ^ k) (sym size))) sized is le
 
 module _ {R : Type 0} (ring : Ring R) (laws : RingLaws ring) where
   -- the halves of a table at a scale
@@ -38,17 +63,6 @@ module _ {R : Type 0} (ring : Ring R) (laws : RingLaws ring) where
   -- a table at scale one, paired with a polynomial, is its value
   pub pair-unit : (one : R) (p c e : List R) → one ≡ ring.one → c ≡ map (ring.product one) (weights ring p) → pair ring c e ≡ value ring e p
   pair-unit one p c e is_one is = ap (λ v. pair ring v e) (is ∙ map-one ring laws one (weights ring p) is_one) ∙ pair-weights ring laws e p
-
--- rows as long as the output, for each entry of a table
-pub rows_of-powers : (eq0 w out e k n : ℕ) → eq0 * w ≡ 2 ^ k → e ≡ 2 ^ n → out ≡ 2 ^ (n - k) → 2 ^ k ≤ 2 ^ n → e ≡ eq0 * (w * out)
-rows_of-powers eq0 w out e k n size sized is le =
-    sized ∙ quotient_of_powers n k le ∙ mul_comm (2 ^ (n - k)) (2 ^ k) ∙ ap (λ m. m * 2 ^ (n - k)) (sym size) ∙ mul_assoc eq0 w (2 ^ (n - k)) ∙ ap (λ m. eq0 * (w * m)) (sym is)
-
-pub size_of-powers : (c e k n : ℕ) → c ≡ 2 ^ k → e ≡ 2 ^ n → 2 ^ k ≤ 2 ^ n → e ≡ c * 2 ^ (n - k)
-size_of-powers c e k n size sized le = sized ∙ quotient_of_powers n k le ∙ mul_comm (2 ^ (n - k)) (2 ^ k) ∙ ap (λ m. m * 2 ^ (n - k)) (sym size)
-
-pub some_of-power : (c k : ℕ) → c ≡ 2 ^ k → 0 < c
-some_of-power c k size = subst (λ m. 0 < m) (sym size) (pow_pos k)
 
 -- where as many variables are left as a packing has, they are packed
 pub room_for_lanes : (c w e k l n : ℕ) → c ≡ 2 ^ k → w ≡ 2 ^ l → e ≡ 2 ^ n → c * w ≤ e → k + l ≤ n

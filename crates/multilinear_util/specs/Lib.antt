@@ -3,3 +3,4 @@ pub mod Lending
 pub mod Thresholds
 pub mod Storage
 pub mod Split
+pub mod Compressions

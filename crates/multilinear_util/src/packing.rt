@@ -7,7 +7,7 @@ use mlu_ring::{
 };
 use std::alloc::{AllocError, Global};
 
-/// The packed elements whose lanes, joined in order, are `evals`. Asks for whole groups of lanes.
+/// The packed elements whose lanes, joined in order, are `evals`. Asks for whole packings.
 pub(crate) fn packed<F: Field, EF: ExtensionField<F>>(
     alloc: Global,
     evals: &[EF],
@@ -25,7 +25,7 @@ pub(crate) fn packed<F: Field, EF: ExtensionField<F>>(
     Ok(elements)
 }
 
-/// Writes the lanes of `elements`, joined in order. Asks for exact room.
+/// Writes the lanes of `elements`, joined in order. Asks for as many places.
 pub(crate) fn unpack_into<F: Field, EF: ExtensionField<F>>(
     elements: &[EF::ExtensionPacking],
     out: &mut [EF],
@@ -40,7 +40,7 @@ pub(crate) fn unpack_into<F: Field, EF: ExtensionField<F>>(
     }
 }
 
-/// The lanes of `elements`, joined in order. Fails too where their number does not fit a word.
+/// The lanes of `elements`, joined in order. Fails too where their number does not fit `usize`.
 pub(crate) fn unpacked<F: Field, EF: ExtensionField<F>>(
     alloc: Global,
     elements: &[EF::ExtensionPacking],

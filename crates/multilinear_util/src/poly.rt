@@ -63,7 +63,7 @@ impl<F: Copy> Poly<F> {
         self.as_slice().len()
     }
 
-    /// The number of variables, below the number of bits of a word.
+    /// As [`PolyView::num_variables`].
     #[inline]
     pub fn num_variables(&self) -> usize
         ensures value { length self.now ≡ 2 ^ result }
@@ -89,7 +89,7 @@ impl<F: Copy> Poly<F> {
         self.evals.as_slice()
     }
 
-    /// The values, to be written.
+    /// The values, to be written: the polynomial ends with what is written.
     #[inline]
     pub fn as_mut_slice(&mut self) -> &mut [F]
         ensures* writes_back { sem 𝓛 (lends_entries F.row self.entry result) }
@@ -107,7 +107,7 @@ impl<F: Copy> Poly<F> {
         self.as_slice().iter()
     }
 
-    /// The values, in their Vec.
+    /// The values, in their Vec. Their number is a power of two.
     #[inline]
     pub fn into_evals(self) -> Vec<F>
         ensures value { result.items ≡ self }
@@ -117,7 +117,7 @@ impl<F: Copy> Poly<F> {
         evals
     }
 
-    /// The value of a polynomial without variables, and `None` for others.
+    /// As [`PolyView::as_constant`].
     #[inline]
     pub fn as_constant(&self) -> Option<F>
         ensures { MatchOption result (1 < length self.now) (λ x. self.now ≡ x ∷ []) }
@@ -147,7 +147,7 @@ impl<F: Copy> Poly<F> {
 }
 
 impl<F: PrimeCharacteristicRing> Poly<F> {
-    /// The zero polynomial in `variables` variables. Asks that `2^variables` fits a word.
+    /// The zero polynomial in `variables` variables. Asks that `2^variables` fits `usize`.
     ///
     /// # Errors
     /// Where the growth is refused.
@@ -160,7 +160,8 @@ impl<F: PrimeCharacteristicRing> Poly<F> {
     }
 
     /// Appends zeros until there are `2^variables` values, which adds variables in front of the
-    /// others. Asks that `2^variables` fits a word and is no less than the number of values.
+    /// others. Asks that `2^variables` fits `usize`, and that `variables >= n`, where there are `2^n`
+    /// values.
     ///
     /// # Errors
     /// Where the growth is refused; the polynomial is then as before.
@@ -174,7 +175,8 @@ impl<F: PrimeCharacteristicRing> Poly<F> {
 }
 
 impl<F: Copy + Sample> Poly<F> {
-    /// `2^variables` drawn values. Asks that their number fits a word.
+    /// `2^variables` drawn values. Which ones come, and where the generator then stands, is not
+    /// promised. Asks that `2^variables` fits `usize`.
     ///
     /// # Errors
     /// Where the growth is refused.

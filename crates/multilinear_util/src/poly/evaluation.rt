@@ -28,11 +28,11 @@ fn recursion_threshold(bytes: usize) -> usize
 
 impl<F: Field> PolyView<'_, F> {
     /// The value at a point of the extension `EF`. Asks for a point with as many coordinates as
-    /// there are variables. Takes no memory below 9 variables where a value of the table takes at
-    /// most 4 bytes, else below 10.
+    /// there are variables.
     ///
     /// # Errors
-    /// Where memory is refused.
+    /// Where memory is refused, but never below 9 variables where a value of the table takes at most
+    /// 4 bytes, else never below 10.
     pub fn eval_base<EF: ExtensionField<F>>(
         &self,
         alloc: Global,
@@ -68,11 +68,11 @@ impl<F: Field> PolyView<'_, F> {
     }
 
     /// The value at a point of the table's own field, an extension of `BaseField`. Asks for a point
-    /// with as many coordinates as there are variables. Takes no memory below 9 variables where an
-    /// element of `BaseField` takes at most 4 bytes, else below 10.
+    /// with as many coordinates as there are variables.
     ///
     /// # Errors
-    /// Where memory is refused.
+    /// Where memory is refused, but never below 9 variables where an element of `BaseField` takes at
+    /// most 4 bytes, else never below 10.
     pub fn eval_ext<BaseField: Field>(
         &self,
         alloc: Global,
@@ -93,7 +93,7 @@ impl<F: Field> PolyView<'_, F> {
 }
 
 impl<A: Copy> PolyView<'_, A> {
-    /// The value of the table of the lanes, joined in order. Asks for a point with as many
+    /// The value at a point of the table of the lanes, joined in order. Asks for a point with as many
     /// coordinates as that table has variables.
     ///
     /// # Errors
@@ -126,12 +126,7 @@ fn value_of_lanes<F: Field, EF: ExtensionField<F>>(
 }
 
 impl<F: Field> Poly<F> {
-    /// The value at a point of the extension `EF`. Asks for a point with as many coordinates as
-    /// there are variables. Takes no memory below 9 variables where a value of the table takes at
-    /// most 4 bytes, else below 10.
-    ///
-    /// # Errors
-    /// Where memory is refused.
+    /// As [`PolyView::eval_base`].
     pub fn eval_base<EF: ExtensionField<F>>(
         &self,
         alloc: Global,
@@ -144,12 +139,7 @@ impl<F: Field> Poly<F> {
         self.as_view().eval_base(alloc, point)
     }
 
-    /// The sum of the values, each times the weights at the point of the vertices that it is the
-    /// next of: the weight of `x` times value `x + 1`, and the last weight times the last value.
-    /// Asks for a point with as many coordinates as there are variables.
-    ///
-    /// # Errors
-    /// Where memory is refused.
+    /// As [`PolyView::eval_next_base`].
     pub fn eval_next_base<EF: ExtensionField<F>>(
         &self,
         alloc: Global,
@@ -161,12 +151,7 @@ impl<F: Field> Poly<F> {
         self.as_view().eval_next_base(alloc, point)
     }
 
-    /// The value at a point of the table's own field, an extension of `BaseField`. Asks for a point
-    /// with as many coordinates as there are variables. Takes no memory below 9 variables where an
-    /// element of `BaseField` takes at most 4 bytes, else below 10.
-    ///
-    /// # Errors
-    /// Where memory is refused.
+    /// As [`PolyView::eval_ext`].
     pub fn eval_ext<BaseField: Field>(
         &self,
         alloc: Global,
@@ -183,11 +168,7 @@ impl<F: Field> Poly<F> {
 }
 
 impl<A: Copy> Poly<A> {
-    /// The value of the table of the lanes, joined in order. Asks for a point with as many
-    /// coordinates as that table has variables.
-    ///
-    /// # Errors
-    /// Where memory is refused.
+    /// As [`PolyView::eval_packed`].
     pub fn eval_packed<F: Field, EF: ExtensionField<F, ExtensionPacking = A>>(
         &self,
         alloc: Global,

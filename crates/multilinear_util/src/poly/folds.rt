@@ -14,7 +14,7 @@ use mlu_eq::{
 use mlu_ring::{Additive, Algebra, ExtensionField, Field, PrimeCharacteristicRing};
 use std::alloc::{AllocError, Global};
 
-impl<F: PrimeCharacteristicRing> PolyView<'_, F> {
+impl<F: Additive> PolyView<'_, F> {
     /// The polynomial with its first variable at `r`: value `i` is `low[i] + r * (high[i] - low[i])`,
     /// where `low` and `high` are the two halves. Asks for at least one variable.
     ///
@@ -58,7 +58,8 @@ impl<F: PrimeCharacteristicRing> PolyView<'_, F> {
 }
 
 impl<F: Field> PolyView<'_, F> {
-    /// [`PolyView::fix_prefix_var`] in packed form. Asks for more variables than a packing has.
+    /// [`PolyView::fix_prefix_var`] in packed form: its values are the lanes, joined in order. Asks for
+    /// more variables than a packing has: `n > log2(W)`.
     ///
     /// # Errors
     /// Where the memory for half the values is refused.
@@ -68,17 +69,15 @@ impl<F: Field> PolyView<'_, F> {
         r: EF,
     ) -> Result<Poly<EF::ExtensionPacking>, AllocError>
         requires { F.Packing.WIDTH < length (entries self.now) }
-        ensures { IfOk result (λ folded. logical EF.ExtensionPacking.ext_lanes folded ≡ front EF.ring (line EF.ring r) (map EF.embed (entries self.now))) }
+        ensures { IfOk result (λ folded. logical EF.ExtensionPacking.ext_lanes folded
+            ≡ front EF.ring (line EF.ring r) (map EF.embed (entries self.now))) }
     {
         Ok(Poly::new(fold_prefix_to_packed(alloc, self.as_slice(), r)?))
     }
 }
 
-impl<F: PrimeCharacteristicRing> Poly<F> {
-    /// The polynomial with its first variable at `r`. Asks for at least one variable.
-    ///
-    /// # Errors
-    /// Where the memory for half the values is refused.
+impl<F: Additive> Poly<F> {
+    /// As [`PolyView::fix_prefix_var`].
     pub fn fix_prefix_var<EF: Algebra<F>>(
         &self,
         alloc: Global,
@@ -90,7 +89,7 @@ impl<F: PrimeCharacteristicRing> Poly<F> {
         self.as_view().fix_prefix_var(alloc, r)
     }
 
-    /// Value `index` of [`Poly::fix_prefix_var`]. Asks that `index` is below half the values.
+    /// As [`PolyView::fix_prefix_var_at`].
     #[inline]
     pub fn fix_prefix_var_at<EF: Algebra<F>>(&self, r: EF, index: usize) -> EF
         requires { index < length self.now / 2 }
@@ -99,10 +98,7 @@ impl<F: PrimeCharacteristicRing> Poly<F> {
         self.as_view().fix_prefix_var_at(r, index)
     }
 
-    /// The polynomial with its last variable at `r`. Asks for at least one variable.
-    ///
-    /// # Errors
-    /// Where the memory for half the values is refused.
+    /// As [`PolyView::fix_suffix_var`].
     pub fn fix_suffix_var<EF: Algebra<F>>(
         &self,
         alloc: Global,
@@ -113,8 +109,10 @@ impl<F: PrimeCharacteristicRing> Poly<F> {
     {
         self.as_view().fix_suffix_var(alloc, r)
     }
+}
 
-    /// Puts the first variable at `r`, in place. Asks for at least one variable.
+impl<F: PrimeCharacteristicRing> Poly<F> {
+    /// [`PolyView::fix_prefix_var`] in place, at the image of `r`. Asks for at least one variable.
     pub fn fix_prefix_var_mut<R: Additive>(&mut self, r: R)
     where
         F: Algebra<R>,
@@ -125,7 +123,7 @@ impl<F: PrimeCharacteristicRing> Poly<F> {
         self.truncate_to_half();
     }
 
-    /// Puts the last variable at `r`, in place. Asks for at least one variable.
+    /// [`PolyView::fix_suffix_var`] in place, at the image of `r`. Asks for at least one variable.
     pub fn fix_suffix_var_mut<R: Additive>(&mut self, r: R)
     where
         F: Algebra<R>,
@@ -136,7 +134,7 @@ impl<F: PrimeCharacteristicRing> Poly<F> {
         self.truncate_to_half();
     }
 
-    /// Puts the last variable at `r` through a new buffer. Asks for at least one variable.
+    /// As [`Poly::fix_suffix_var_mut`], through a new buffer.
     ///
     /// # Errors
     /// Where the memory for half the values is refused; the polynomial is then as before.
@@ -181,17 +179,15 @@ impl<F: PrimeCharacteristicRing> Poly<F> {
 }
 
 impl<F: Field> Poly<F> {
-    /// [`Poly::fix_prefix_var`] in packed form. Asks for more variables than a packing has.
-    ///
-    /// # Errors
-    /// Where the memory for half the values is refused.
+    /// As [`PolyView::fix_prefix_var_to_packed`].
     pub fn fix_prefix_var_to_packed<EF: ExtensionField<F>>(
         &self,
         alloc: Global,
         r: EF,
     ) -> Result<Poly<EF::ExtensionPacking>, AllocError>
         requires { F.Packing.WIDTH < length self.now }
-        ensures { IfOk result (λ folded. logical EF.ExtensionPacking.ext_lanes folded ≡ front EF.ring (line EF.ring r) (map EF.embed self.now)) }
+        ensures { IfOk result (λ folded. logical EF.ExtensionPacking.ext_lanes folded
+            ≡ front EF.ring (line EF.ring r) (map EF.embed self.now)) }
     {
         self.as_view().fix_prefix_var_to_packed(alloc, r)
     }

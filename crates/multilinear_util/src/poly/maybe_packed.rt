@@ -22,6 +22,7 @@ pub enum PolyMaybePackedView<'a, F: Field, EF: ExtensionField<F>> {
     Packed(PolyView<'a, EF::ExtensionPacking>),
 }
 
+/// The same view, never an error.
 impl<F: Field, EF: ExtensionField<F>> Clone for PolyMaybePackedView<'_, F, EF> {
     ghost use Rattle.std.specs.Prelude.{◌≡◌, ⊤};
 
@@ -36,6 +37,7 @@ impl<F: Field, EF: ExtensionField<F>> Clone for PolyMaybePackedView<'_, F, EF> {
 
 impl<F: Field, EF: ExtensionField<F>> Copy for PolyMaybePackedView<'_, F, EF> {}
 
+/// The polynomial, stored as scalars.
 impl<F: Field, EF: ExtensionField<F>> From<Poly<EF>> for PolyMaybePacked<F, EF> {
     ghost use Rattle.std.specs.Prelude.{◌≡◌};
     ghost use Rattle.multilinear_util.specs.declared.poly.maybe_packed.PolyMaybePacked.TheVariants.{Scalar};
@@ -60,7 +62,7 @@ impl<F: Field, EF: ExtensionField<F>> PolyMaybePacked<F, EF> {
         self.as_view().num_variables()
     }
 
-    /// The number of values. Asks that it fits a word.
+    /// As [`PolyMaybePackedView::num_scalar_evals`].
     pub fn num_scalar_evals(&self) -> usize
         requires { length (scalars EF.ExtensionPacking.ext_lanes self.now) < 2 ^ 64 }
         ensures { result ≡ length (scalars EF.ExtensionPacking.ext_lanes self.now) }
@@ -68,7 +70,7 @@ impl<F: Field, EF: ExtensionField<F>> PolyMaybePacked<F, EF> {
         self.as_view().num_scalar_evals()
     }
 
-    /// The polynomial, borrowed.
+    /// The polynomial, borrowed in the form that it has.
     pub fn as_view(&self) -> PolyMaybePackedView<'_, F, EF>
         ensures value { view_scalars EF.ExtensionPacking.ext_lanes result ≡ scalars EF.ExtensionPacking.ext_lanes self.now }
         ensures scalar { IsScalar self.now ↔ IsScalarView result }
@@ -82,8 +84,8 @@ impl<F: Field, EF: ExtensionField<F>> PolyMaybePacked<F, EF> {
     /// The scalar table. A packed one gives its lanes, joined in order.
     ///
     /// # Errors
-    /// Where the memory for the lanes is refused, or their number does not fit a word; the
-    /// polynomial comes back.
+    /// Where the memory for the lanes is refused, or their number does not fit `usize`; the polynomial
+    /// comes back. Never with scalars.
     pub fn unpack(self, alloc: Global) -> Result<Poly<EF>, (Self, AllocError)>
         ensures value { MatchResult result (λ poly. poly ≡ scalars EF.ExtensionPacking.ext_lanes self) (λ refused. refused.0 ≡ self) }
         ensures scalar { IsScalar self → IsOk result }
@@ -97,7 +99,7 @@ impl<F: Field, EF: ExtensionField<F>> PolyMaybePacked<F, EF> {
         }
     }
 
-    /// Writes the values. Asks for exact room.
+    /// As [`PolyMaybePackedView::unpack_into`].
     pub fn unpack_into(&self, out: &mut [EF])
         requires { length out.old ≡ length (scalars EF.ExtensionPacking.ext_lanes self.now) }
         ensures { out.new ≡ scalars EF.ExtensionPacking.ext_lanes self.now }
@@ -105,10 +107,7 @@ impl<F: Field, EF: ExtensionField<F>> PolyMaybePacked<F, EF> {
         self.as_view().unpack_into(out);
     }
 
-    /// The value at a point. Asks for a point with as many coordinates as there are variables.
-    ///
-    /// # Errors
-    /// Where memory is refused.
+    /// As [`PolyMaybePackedView::eval`].
     pub fn eval(&self, alloc: Global, point: &Point<EF>) -> Result<EF, AllocError>
         requires { length (scalars EF.ExtensionPacking.ext_lanes self.now) ≡ 2 ^ length point.now }
         ensures value { IfOk result (λ x. x ≡ value EF.ring (scalars EF.ExtensionPacking.ext_lanes self.now) point.now) }
@@ -149,7 +148,7 @@ impl<'a, F: Field, EF: ExtensionField<F>> PolyMaybePackedView<'a, F, EF> {
         }
     }
 
-    /// The number of values. Asks that it fits a word.
+    /// The number of values. Asks that it fits `usize`.
     pub fn num_scalar_evals(&self) -> usize
         requires { length (view_scalars EF.ExtensionPacking.ext_lanes self.now) < 2 ^ 64 }
         ensures { result ≡ length (view_scalars EF.ExtensionPacking.ext_lanes self.now) }
@@ -169,7 +168,7 @@ impl<'a, F: Field, EF: ExtensionField<F>> PolyMaybePackedView<'a, F, EF> {
         *self
     }
 
-    /// Writes the values. Asks for exact room.
+    /// Writes the values over `out`. Asks for as many places.
     pub fn unpack_into(&self, out: &mut [EF])
         requires { length out.old ≡ length (view_scalars EF.ExtensionPacking.ext_lanes self.now) }
         ensures { out.new ≡ view_scalars EF.ExtensionPacking.ext_lanes self.now }
@@ -186,7 +185,8 @@ impl<'a, F: Field, EF: ExtensionField<F>> PolyMaybePackedView<'a, F, EF> {
     /// The value at a point. Asks for a point with as many coordinates as there are variables.
     ///
     /// # Errors
-    /// Where memory is refused.
+    /// Where memory is refused, but never with scalars below 9 variables where an element of `F` takes
+    /// at most 4 bytes, else never below 10.
     pub fn eval(&self, alloc: Global, point: &Point<EF>) -> Result<EF, AllocError>
         requires { length (view_scalars EF.ExtensionPacking.ext_lanes self.now) ≡ 2 ^ length point.now }
         ensures value { IfOk result (λ x. x ≡ value EF.ring (view_scalars EF.ExtensionPacking.ext_lanes self.now) point.now) }

@@ -10,8 +10,8 @@ use mlu_ring::{ExtensionField, Field, PackedFieldExtension};
 use std::alloc::{AllocError, Global};
 
 impl<A: Copy> PolyView<'_, A> {
-    /// The packed table whose lanes, joined in order, are the values. Asks for at least as many
-    /// variables as a packing has.
+    /// The packed table whose lanes, joined in order, are the values. Asks that `n >= log2(W)`, where
+    /// there are `n` variables.
     ///
     /// # Errors
     /// Where the memory for the table is refused.
@@ -30,7 +30,7 @@ impl<A: Copy> PolyView<'_, A> {
     /// The table of the lanes, joined in order.
     ///
     /// # Errors
-    /// Where the memory for the table is refused, or the number of the lanes does not fit a word.
+    /// Where the memory for the table is refused, or the number of the lanes does not fit `usize`.
     pub fn unpack<F: Field, EF: ExtensionField<F, ExtensionPacking = A>>(
         &self,
         alloc: Global,
@@ -40,7 +40,7 @@ impl<A: Copy> PolyView<'_, A> {
         Ok(Poly::new(packing::unpacked::<F, EF>(alloc, self.as_slice())?))
     }
 
-    /// Writes the lanes, joined in order, over `out`. Asks for a table of their number.
+    /// Writes the lanes, joined in order, over `out`. Asks for as many values there.
     pub fn unpack_into<F: Field, EF: ExtensionField<F, ExtensionPacking = A>>(
         &self,
         out: &mut Poly<EF>,
@@ -53,11 +53,7 @@ impl<A: Copy> PolyView<'_, A> {
 }
 
 impl<A: Copy> Poly<A> {
-    /// The packed table whose lanes, joined in order, are the values. Asks for at least as many
-    /// variables as a packing has.
-    ///
-    /// # Errors
-    /// Where the memory for the table is refused.
+    /// As [`PolyView::pack`].
     pub fn pack<F: Field, EF: ExtensionField<F>>(
         &self,
         alloc: Global,
@@ -70,10 +66,7 @@ impl<A: Copy> Poly<A> {
         self.as_view().pack::<F, EF>(alloc)
     }
 
-    /// The table of the lanes, joined in order.
-    ///
-    /// # Errors
-    /// Where the memory for the table is refused, or the number of the lanes does not fit a word.
+    /// As [`PolyView::unpack`].
     pub fn unpack<F: Field, EF: ExtensionField<F, ExtensionPacking = A>>(
         &self,
         alloc: Global,
@@ -83,7 +76,7 @@ impl<A: Copy> Poly<A> {
         self.as_view().unpack::<F, EF>(alloc)
     }
 
-    /// Writes the lanes, joined in order, over `out`. Asks for a table of their number.
+    /// As [`PolyView::unpack_into`].
     pub fn unpack_into<F: Field, EF: ExtensionField<F, ExtensionPacking = A>>(
         &self,
         out: &mut Poly<EF>,

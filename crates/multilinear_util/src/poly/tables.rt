@@ -13,8 +13,8 @@ use mlu_ring::{
 use std::alloc::{AllocError, Global};
 
 impl<F: PrimeCharacteristicRing> Poly<F> {
-    /// `scale` times the weight of each vertex at the point. Asks that `2^n` fits a word, where
-    /// the point has `n` coordinates.
+    /// `scale` times the weight of each vertex at the point. Asks that `2^n` fits `usize`, where the
+    /// point has `n` coordinates.
     ///
     /// # Errors
     /// Where the memory for the table is refused.
@@ -28,7 +28,7 @@ impl<F: PrimeCharacteristicRing> Poly<F> {
     }
 
     /// The weights at the point, each moved to the next vertex: entry `x` is the weight of the
-    /// vertex before `x`, and the last entry has the last weight too. Asks that `2^n` fits a word,
+    /// vertex before `x`, and the last entry has the last weight too. Asks that `2^n` fits `usize`,
     /// where the point has `n` coordinates.
     ///
     /// # Errors
@@ -59,8 +59,7 @@ impl<A: Copy> Poly<A> {
     /// [`Poly::new_from_point`] in packed form: the lanes, joined in order, are `scale` times the
     /// weight of each vertex.
     ///
-    /// Asks for at least as many coordinates as a packing has variables, and that `2^n` fits a
-    /// word.
+    /// Asks that `n >= log2(W)`, and that `2^n` fits `usize`, where the point has `n` coordinates.
     ///
     /// # Errors
     /// Where memory is refused.

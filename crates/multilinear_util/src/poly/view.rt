@@ -1,3 +1,4 @@
+//! Polynomials that borrow their values.
 ghost use Rattle.std.specs.Prelude.{◌≡◌, ⊤, ◌<◌, ◌^◌, ◌∷◌, [], length, IsTrue, MatchOption};
 ghost use Rattle.std.specs.Int.{is_power_of_two};
 
@@ -11,6 +12,7 @@ pub struct PolyView<'a, F> {
     ghost power: { IsTrue (is_power_of_two (length evals.now)) },
 }
 
+/// The same view, never an error.
 impl<F> Clone for PolyView<'_, F> {
     ghost is_clone = { λ a b. a ≡ b };
 
@@ -46,7 +48,7 @@ impl<'a, F: Copy> PolyView<'a, F> {
         self.as_slice().len()
     }
 
-    /// The number of variables, below the number of bits of a word.
+    /// The number of variables: `n`, where there are `2^n` values. It is below 64.
     #[inline]
     pub fn num_variables(&self) -> usize
         ensures value { length (entries self.now) ≡ 2 ^ result }
@@ -91,7 +93,7 @@ impl<'a, F: Copy> PolyView<'a, F> {
         self.evals.iter()
     }
 
-    /// The value of a polynomial without variables, and `None` for others.
+    /// The value of a polynomial without variables, and `None` exactly where there are more values.
     #[inline]
     pub fn as_constant(&self) -> Option<F>
         ensures { MatchOption result (1 < length (entries self.now)) (λ x. entries self.now ≡ x ∷ []) }

@@ -1,53 +1,54 @@
 //! A split table, times a scale, added to an output.
-ghost use Rattle.std.specs.Prelude.{◌≡◌, ◌*◌, ◌^◌, ◌<◌, ◌≤◌, length, map, IfOk, IsOk, OnErr};
+ghost use Rattle.std.specs.Prelude.{◌≡◌, ◌*◌, ◌^◌, ◌<◌, ◌≤◌, length, map, IfOk, IsOk, IsTrue, OnErr};
 ghost use Rattle.std.specs.Simd.Lanes.{zip2};
+ghost use Rattle.mlu_ring.specs.Sums.{plus_scaled};
 ghost use Rattle.mlu_ring.specs.Lanes.{logical};
-ghost use Rattle.mlu_eq.specs.Weights.{IsPacked};
 
 use super::SplitEq;
 use crate::poly::Poly;
+use mlu_eq::split;
 use mlu_ring::{Additive, ExtensionField, Field, Lanewise, PackedFieldExtension, PackedValue};
 use std::alloc::{AllocError, Global};
 
 impl<F: Field, EF: ExtensionField<F>> SplitEq<F, EF> {
-    ghost use Rattle.multilinear_util.specs.Split.{second_half, split_entries, scale_or_one};
+    ghost use Rattle.multilinear_util.specs.Split.{split_entries, scale_or_one};
 
     /// Adds each entry, times `scale`, to its place of `out`; no scale is a scale of one. Asks for
     /// as many places as there are entries.
     pub fn accumulate_into(&self, out: &mut [EF], scale: Option<EF>)
-        requires { length out.old ≡ length (split_entries EF.ring EF.ExtensionPacking.ext_lanes self.now) }
-        ensures { out.new ≡ zip2 EF.ring.sum out.old (map (EF.ring.product (scale_or_one EF.ring scale)) (split_entries EF.ring EF.ExtensionPacking.ext_lanes self.now)) }
+        requires { length out.old ≡ length (split_entries EF.ring self.now) }
+        ensures { out.new ≡ plus_scaled EF.ring out.old (scale_or_one EF.ring scale) (split_entries EF.ring self.now) }
     {
-        self.eq1
-            .accumulate_into(self.eq0.as_slice(), out, scale.unwrap_or(EF::ONE));
+        let (eq0, eq1) = self.halves();
+        split::accumulate_into(eq0, eq1, out, scale.unwrap_or(EF::ONE));
     }
 
-    /// [`SplitEq::accumulate_into`] with packed places, which stand for their lanes. Takes no
-    /// memory where the second half is packed and the table has at least twice as many variables
-    /// as a packing.
+    /// [`SplitEq::accumulate_into`] with packed places, which stand for their lanes. Asks for as many
+    /// lanes as there are entries.
     ///
     /// # Errors
-    /// Where the memory for the whole table is refused, or the number of its entries does not fit a
-    /// word; `out` is then as before.
+    /// Where the memory for the whole table is refused, or the number of its entries does not fit
+    /// `usize`; `out` is then as before. Never where the second half is packed and `k >= 2 log2(W)`,
+    /// where the table has `k` variables.
     pub fn accumulate_into_packed(
         &self,
         alloc: Global,
         out: &mut [EF::ExtensionPacking],
         scale: Option<EF>,
     ) -> Result<(), AllocError>
-        requires { length out.old * F.Packing.WIDTH ≡ length (split_entries EF.ring EF.ExtensionPacking.ext_lanes self.now) }
-        ensures ok { IfOk result (λ _. logical EF.ExtensionPacking.ext_lanes out.new ≡ zip2 EF.ring.sum (logical EF.ExtensionPacking.ext_lanes out.old) (map (EF.ring.product (scale_or_one EF.ring scale)) (split_entries EF.ring EF.ExtensionPacking.ext_lanes self.now))) }
+        requires { length out.old * F.Packing.WIDTH ≡ length (split_entries EF.ring self.now) }
+        ensures ok { IfOk result (λ _. logical EF.ExtensionPacking.ext_lanes out.new ≡ plus_scaled EF.ring (logical EF.ExtensionPacking.ext_lanes out.old) (scale_or_one EF.ring scale) (split_entries EF.ring self.now)) }
         ensures err { OnErr result (out.new ≡ out.old) }
-        ensures packed { IsPacked (second_half self.now) → F.Packing.WIDTH * F.Packing.WIDTH ≤ length out.old * F.Packing.WIDTH → IsOk result }
+        ensures packed { IsTrue self.now.eq1.packed → F.Packing.WIDTH * F.Packing.WIDTH ≤ length out.old * F.Packing.WIDTH → IsOk result }
     {
-        if !self.eq1.is_packed() {
+        if !self.eq1().is_packed() {
             return self.add_table(alloc, out, scale);
         }
         if self.num_variables() / 2 < <F::Packing as PackedValue>::LOG_WIDTH {
             return self.add_table(alloc, out, scale);
         }
-        self.eq1
-            .accumulate_into_packed(self.eq0.as_slice(), out, scale.unwrap_or(EF::ONE));
+        let (eq0, eq1) = self.halves();
+        split::accumulate_into_packed(eq0, eq1, out, scale.unwrap_or(EF::ONE));
         Ok(())
     }
 
@@ -58,8 +59,8 @@ impl<F: Field, EF: ExtensionField<F>> SplitEq<F, EF> {
         out: &mut [EF::ExtensionPacking],
         scale: Option<EF>,
     ) -> Result<(), AllocError>
-        requires { length out.old * F.Packing.WIDTH ≡ length (split_entries EF.ring EF.ExtensionPacking.ext_lanes self.now) }
-        ensures ok { IfOk result (λ _. logical EF.ExtensionPacking.ext_lanes out.new ≡ zip2 EF.ring.sum (logical EF.ExtensionPacking.ext_lanes out.old) (map (EF.ring.product (scale_or_one EF.ring scale)) (split_entries EF.ring EF.ExtensionPacking.ext_lanes self.now))) }
+        requires { length out.old * F.Packing.WIDTH ≡ length (split_entries EF.ring self.now) }
+        ensures ok { IfOk result (λ _. logical EF.ExtensionPacking.ext_lanes out.new ≡ plus_scaled EF.ring (logical EF.ExtensionPacking.ext_lanes out.old) (scale_or_one EF.ring scale) (split_entries EF.ring self.now)) }
         ensures err { OnErr result (out.new ≡ out.old) }
     {
         let Some(entries) = out.len().checked_mul(<F::Packing as PackedValue>::WIDTH) else {
@@ -71,13 +72,13 @@ impl<F: Field, EF: ExtensionField<F>> SplitEq<F, EF> {
         Ok(())
     }
 
-    /// The whole table. Asks that the number of its entries fits a word.
+    /// The whole table. Asks that the number of its entries fits `usize`.
     ///
     /// # Errors
     /// Where the memory for the table is refused.
     pub fn materialize(&self, alloc: Global) -> Result<Poly<EF>, AllocError>
-        requires { length (split_entries EF.ring EF.ExtensionPacking.ext_lanes self.now) < 2 ^ 64 }
-        ensures { IfOk result (λ poly. poly ≡ split_entries EF.ring EF.ExtensionPacking.ext_lanes self.now) }
+        requires { length (split_entries EF.ring self.now) < 2 ^ 64 }
+        ensures { IfOk result (λ poly. poly ≡ split_entries EF.ring self.now) }
     {
         let mut table = Poly::zero(alloc, self.num_variables())?;
         self.accumulate_into(table.as_mut_slice(), None);

@@ -7,6 +7,7 @@ ghost use Rattle.multilinear_util.specs.Views.{entries};
 
 use super::SplitEq;
 use crate::poly::{Poly, PolyView};
+use mlu_eq::split;
 use mlu_ring::{ExtensionField, Field, PackedValue};
 use std::alloc::{AllocError, Global};
 
@@ -14,8 +15,8 @@ impl<F: Field, EF: ExtensionField<F>> SplitEq<F, EF> {
     ghost use Rattle.multilinear_util.specs.Split.{split_entries};
 
     /// The polynomial compressed at its first variables: value `z` is the sum over `y` of entry `y`
-    /// times `e[y * s + z]`, where `s` is the number of values that are left. Asks for at least as
-    /// many variables as the table has.
+    /// times `e[y * s + z]`, where `s` is the number of values that are left. Asks that `n >= k`,
+    /// where the polynomial has `n` variables and the table `k`.
     ///
     /// # Errors
     /// Where the memory for the values that are left is refused.
@@ -24,17 +25,17 @@ impl<F: Field, EF: ExtensionField<F>> SplitEq<F, EF> {
         alloc: Global,
         poly: PolyView<'_, F>,
     ) -> Result<Poly<EF>, AllocError>
-        requires { length (split_entries EF.ring EF.ExtensionPacking.ext_lanes self.now) ≤ length (entries poly) }
-        ensures { IfOk result (λ folded. folded ≡ front EF.ring (split_entries EF.ring EF.ExtensionPacking.ext_lanes self.now) (map EF.embed (entries poly.entry))) }
+        requires { length (split_entries EF.ring self.now) ≤ length (entries poly) }
+        ensures { IfOk result (λ folded. folded ≡ front EF.ring (split_entries EF.ring self.now) (map EF.embed (entries poly.entry))) }
     {
         let mut out = Poly::zero(alloc, poly.num_variables() - self.num_variables())?;
-        self.eq1
-            .compress_prefix_into(self.eq0.as_slice(), out.as_mut_slice(), poly.as_slice());
+        let (eq0, eq1) = self.halves();
+        split::compress_prefix_into(eq0, eq1, out.as_mut_slice(), poly.as_slice());
         Ok(out)
     }
 
-    /// [`SplitEq::compress_prefix`] in packed form. Asks for as many variables more as a packing
-    /// has.
+    /// [`SplitEq::compress_prefix`] in packed form: its values are the lanes, joined in order. Asks
+    /// that `n >= k + log2(W)`.
     ///
     /// # Errors
     /// Where the memory for the values that are left is refused.
@@ -43,23 +44,20 @@ impl<F: Field, EF: ExtensionField<F>> SplitEq<F, EF> {
         alloc: Global,
         poly: PolyView<'_, F>,
     ) -> Result<Poly<EF::ExtensionPacking>, AllocError>
-        requires { length (split_entries EF.ring EF.ExtensionPacking.ext_lanes self.now) * F.Packing.WIDTH ≤ length (entries poly) }
-        ensures { IfOk result (λ folded. logical EF.ExtensionPacking.ext_lanes folded ≡ front EF.ring (split_entries EF.ring EF.ExtensionPacking.ext_lanes self.now) (map EF.embed (entries poly.entry))) }
+        requires { length (split_entries EF.ring self.now) * F.Packing.WIDTH ≤ length (entries poly) }
+        ensures { IfOk result (λ folded. logical EF.ExtensionPacking.ext_lanes folded
+            ≡ front EF.ring (split_entries EF.ring self.now) (map EF.embed (entries poly.entry))) }
     {
         let left = poly.num_variables() - self.num_variables();
         let mut out = Poly::zero(alloc, left - <F::Packing as PackedValue>::LOG_WIDTH)?;
-        self.eq1
-            .compress_prefix_to_packed_into(
-                self.eq0.as_slice(),
-                out.as_mut_slice(),
-                poly.as_slice(),
-            );
+        let (eq0, eq1) = self.halves();
+        split::compress_prefix_to_packed_into(eq0, eq1, out.as_mut_slice(), poly.as_slice());
         Ok(out)
     }
 
     /// The polynomial compressed at its last variables: value `y` is the sum over `z` of entry `z`
-    /// times `e[y * t + z]`, where the table has `t` entries. Asks for at least as many variables
-    /// as the table has.
+    /// times `e[y * t + z]`, where the table has `t` entries. Asks that `n >= k`, where the
+    /// polynomial has `n` variables and the table `k`.
     ///
     /// # Errors
     /// Where the memory for the values that are left is refused.
@@ -68,26 +66,26 @@ impl<F: Field, EF: ExtensionField<F>> SplitEq<F, EF> {
         alloc: Global,
         poly: PolyView<'_, F>,
     ) -> Result<Poly<EF>, AllocError>
-        requires { length (split_entries EF.ring EF.ExtensionPacking.ext_lanes self.now) ≤ length (entries poly) }
-        ensures { IfOk result (λ folded. folded ≡ back EF.ring (split_entries EF.ring EF.ExtensionPacking.ext_lanes self.now) (map EF.embed (entries poly.entry))) }
+        requires { length (split_entries EF.ring self.now) ≤ length (entries poly) }
+        ensures { IfOk result (λ folded. folded ≡ back EF.ring (split_entries EF.ring self.now) (map EF.embed (entries poly.entry))) }
     {
         let mut out = Poly::zero(alloc, poly.num_variables() - self.num_variables())?;
         self.compress_suffix_into(out.as_mut_slice(), poly);
         Ok(out)
     }
 
-    /// [`SplitEq::compress_suffix`] over an output, whose old values do not count. Asks for exact
-    /// room.
+    /// [`SplitEq::compress_suffix`] over an output, whose old values do not count. Asks that places
+    /// times entries is the number of the polynomial's values.
     pub fn compress_suffix_into(&self, out: &mut [EF], poly: PolyView<'_, F>)
-        requires { length (entries poly) ≡ length out.old * length (split_entries EF.ring EF.ExtensionPacking.ext_lanes self.now) }
-        ensures { out.new ≡ back EF.ring (split_entries EF.ring EF.ExtensionPacking.ext_lanes self.now) (map EF.embed (entries poly.entry)) }
+        requires { length (entries poly) ≡ length out.old * length (split_entries EF.ring self.now) }
+        ensures { out.new ≡ back EF.ring (split_entries EF.ring self.now) (map EF.embed (entries poly.entry)) }
     {
-        self.eq1
-            .compress_suffix_into(self.eq0.as_slice(), out, poly.as_slice());
+        let (eq0, eq1) = self.halves();
+        split::compress_suffix_into(eq0, eq1, out, poly.as_slice());
     }
 
     /// [`SplitEq::compress_prefix`] by the table moved up by one place: each value meets the entry
-    /// before its own, and the first one none.
+    /// before its own, and the first one none. Asks that `n >= k`.
     ///
     /// # Errors
     /// Where the memory for the values that are left is refused.
@@ -96,17 +94,18 @@ impl<F: Field, EF: ExtensionField<F>> SplitEq<F, EF> {
         alloc: Global,
         poly: PolyView<'_, F>,
     ) -> Result<Poly<EF>, AllocError>
-        requires { length (split_entries EF.ring EF.ExtensionPacking.ext_lanes self.now) ≤ length (entries poly) }
-        ensures { IfOk result (λ folded. folded ≡ front EF.ring (shifted EF.ring (split_entries EF.ring EF.ExtensionPacking.ext_lanes self.now)) (map EF.embed (entries poly.entry))) }
+        requires { length (split_entries EF.ring self.now) ≤ length (entries poly) }
+        ensures { IfOk result (λ folded. folded
+            ≡ front EF.ring (shifted EF.ring (split_entries EF.ring self.now)) (map EF.embed (entries poly.entry))) }
     {
         let mut out = Poly::zero(alloc, poly.num_variables() - self.num_variables())?;
-        self.eq1
-            .compress_prefix_shifted_into(self.eq0.as_slice(), out.as_mut_slice(), poly.as_slice());
+        let (eq0, eq1) = self.halves();
+        split::compress_prefix_shifted_into(eq0, eq1, out.as_mut_slice(), poly.as_slice());
         Ok(out)
     }
 
     /// [`SplitEq::compress_suffix`] by the table moved up by one place: each value meets the entry
-    /// before its own, and the first one of each row none.
+    /// before its own, and the first one of each row none. Asks that `n >= k`.
     ///
     /// # Errors
     /// Where the memory for the values that are left is refused.
@@ -115,12 +114,13 @@ impl<F: Field, EF: ExtensionField<F>> SplitEq<F, EF> {
         alloc: Global,
         poly: PolyView<'_, F>,
     ) -> Result<Poly<EF>, AllocError>
-        requires { length (split_entries EF.ring EF.ExtensionPacking.ext_lanes self.now) ≤ length (entries poly) }
-        ensures { IfOk result (λ folded. folded ≡ back EF.ring (shifted EF.ring (split_entries EF.ring EF.ExtensionPacking.ext_lanes self.now)) (map EF.embed (entries poly.entry))) }
+        requires { length (split_entries EF.ring self.now) ≤ length (entries poly) }
+        ensures { IfOk result (λ folded. folded
+            ≡ back EF.ring (shifted EF.ring (split_entries EF.ring self.now)) (map EF.embed (entries poly.entry))) }
     {
         let mut out = Poly::zero(alloc, poly.num_variables() - self.num_variables())?;
-        self.eq1
-            .compress_suffix_shifted_into(self.eq0.as_slice(), out.as_mut_slice(), poly.as_slice());
+        let (eq0, eq1) = self.halves();
+        split::compress_suffix_shifted_into(eq0, eq1, out.as_mut_slice(), poly.as_slice());
         Ok(out)
     }
 }

@@ -1,65 +1,71 @@
 //! The sum of the entries of a polynomial, each times its weight in a split table.
-ghost use Rattle.std.specs.Prelude.{◌≡◌, ◌*◌, length, map, IfOk, IsOk};
+ghost use Rattle.std.specs.Prelude.{◌≡◌, ◌*◌, length, map, IfOk, IsOk, IsTrue};
 ghost use Rattle.mlu_ring.specs.Lanes.{logical};
 ghost use Rattle.mlu_ring.specs.Successor.{next};
 ghost use Rattle.mlu_ring.specs.Tables.{pair};
-ghost use Rattle.mlu_eq.specs.Weights.{IsPacked};
 ghost use Rattle.multilinear_util.specs.Views.{entries};
 
 use super::SplitEq;
 use crate::poly::PolyView;
+use mlu_eq::split;
 use mlu_ring::{Additive, Algebra, ExtensionField, Field};
 use std::alloc::{AllocError, Global};
 
 impl<F: Field, EF: ExtensionField<F>> SplitEq<F, EF> {
-    ghost use Rattle.multilinear_util.specs.Split.{second_half, split_entries};
+    ghost use Rattle.multilinear_util.specs.Split.{split_entries};
 
-    /// The sum over the base values of a polynomial. Asks for as many variables as the table has.
+    /// The sum of the polynomial's base values, each times its entry. Asks for as many values as
+    /// entries.
     pub fn eval_base(&self, poly: PolyView<'_, F>) -> EF
-        requires { length (entries poly) ≡ length (split_entries EF.ring EF.ExtensionPacking.ext_lanes self.now) }
-        ensures { result ≡ pair EF.ring (split_entries EF.ring EF.ExtensionPacking.ext_lanes self.now) (map EF.embed (entries poly.entry)) }
+        requires { length (entries poly) ≡ length (split_entries EF.ring self.now) }
+        ensures { result ≡ pair EF.ring (split_entries EF.ring self.now) (map EF.embed (entries poly.entry)) }
     {
-        self.eq1.dot_base(self.eq0.as_slice(), poly.as_slice())
+        let (eq0, eq1) = self.halves();
+        split::dot_base(eq0, eq1, poly.as_slice())
     }
 
-    /// The sum over the base values of a polynomial, each weight at the next value: entry `x` of
-    /// the table times value `x + 1`, and the last entry times the last value. Asks for as many
-    /// variables as the table has.
+    /// The sum of the polynomial's base values, each times the entries of the places that it is the
+    /// next of: entry `x` times value `x + 1`, and the last entry times the last value. Asks for as many
+    /// values as entries.
     pub fn eval_next_base(&self, poly: PolyView<'_, F>) -> EF
-        requires { length (entries poly) ≡ length (split_entries EF.ring EF.ExtensionPacking.ext_lanes self.now) }
-        ensures { result ≡ pair EF.ring (next EF.ring (split_entries EF.ring EF.ExtensionPacking.ext_lanes self.now)) (map EF.embed (entries poly.entry)) }
+        requires { length (entries poly) ≡ length (split_entries EF.ring self.now) }
+        ensures { result ≡ pair EF.ring (next EF.ring (split_entries EF.ring self.now)) (map EF.embed (entries poly.entry)) }
     {
         let values = poly.as_slice();
-        let steps = self.eq1.dot_base_shifted(self.eq0.as_slice(), values);
+        let (eq0, eq1) = self.halves();
+        let steps = split::dot_base_shifted(eq0, eq1, values);
         steps + self.last_scalar().scale(values[values.len() - 1])
     }
 
-    /// The sum over the values of a polynomial. Asks for as many variables as the table has.
+    /// The sum of the polynomial's values, each times its entry. Asks for as many values as entries.
     pub fn eval_ext(&self, poly: PolyView<'_, EF>) -> EF
-        requires { length (entries poly) ≡ length (split_entries EF.ring EF.ExtensionPacking.ext_lanes self.now) }
-        ensures { result ≡ pair EF.ring (split_entries EF.ring EF.ExtensionPacking.ext_lanes self.now) (entries poly.entry) }
+        requires { length (entries poly) ≡ length (split_entries EF.ring self.now) }
+        ensures { result ≡ pair EF.ring (split_entries EF.ring self.now) (entries poly.entry) }
     {
-        self.eq1.dot_ext(self.eq0.as_slice(), poly.as_slice())
+        let (eq0, eq1) = self.halves();
+        split::dot_ext(eq0, eq1, poly.as_slice())
     }
 
-    /// The sum over the lanes of a packed polynomial, joined in order. Asks for as many lanes as
-    /// the table has entries. Takes no memory where the second half is packed.
+    /// The sum of the polynomial's lanes, joined in order, each times its entry. Asks for as many lanes
+    /// as entries.
     ///
     /// # Errors
-    /// Where the memory to unpack the polynomial is refused.
+    /// Where the memory to unpack the polynomial is refused. Never where the second half is packed.
     pub fn eval_packed(
         &self,
         alloc: Global,
         poly: PolyView<'_, EF::ExtensionPacking>,
     ) -> Result<EF, AllocError>
-        requires { length (entries poly) * F.Packing.WIDTH ≡ length (split_entries EF.ring EF.ExtensionPacking.ext_lanes self.now) }
-        ensures value { IfOk result (λ x. x ≡ pair EF.ring (split_entries EF.ring EF.ExtensionPacking.ext_lanes self.now) (logical EF.ExtensionPacking.ext_lanes (entries poly.entry))) }
-        ensures packed { IsPacked (second_half self.now) → IsOk result }
+        requires { length (entries poly) * F.Packing.WIDTH ≡ length (split_entries EF.ring self.now) }
+        ensures value { IfOk result (λ x. x
+            ≡ pair EF.ring (split_entries EF.ring self.now) (logical EF.ExtensionPacking.ext_lanes (entries poly.entry))) }
+        ensures packed { IsTrue self.now.eq1.packed → IsOk result }
     {
-        if !self.eq1.is_packed() {
+        if !self.eq1().is_packed() {
             let evals = poly.unpack::<F, EF>(alloc)?;
             return Ok(self.eval_ext(evals.as_view()));
         }
-        Ok(self.eq1.dot_packed(self.eq0.as_slice(), poly.as_slice()))
+        let (eq0, eq1) = self.halves();
+        Ok(split::dot_packed(eq0, eq1, poly.as_slice()))
     }
 }

@@ -1,5 +1,5 @@
-use Rattle.std.proofs.Common.{map, sym, ap, ◌∙◌}
-use Rattle.mlu_lanes.specs.Itself.{map_itself}
+use Rattle.std.proofs.Common.{map, ap, ◌∙◌}
+use Rattle.std.proofs.lemmas.List.{map-id}
 use Rattle.mlu_ring.specs.Tables.{back, line}
 use Rattle.mlu.specs.Elements.{elements}
 use Rattle.mlu.specs.Words.{line_of}
@@ -24,5 +24,5 @@ returns c =
       x.2,
       x.3,
       c.in_ok-line.ensures
-          ∙ ap line_of (c.as_slice.ensures.value ∙ c.in_ok-folded.ensures ∙ ap (λ y. back elements (line elements y.1) (map (λ z. z) y.0)) x.4 ∙ ap (back elements (line elements x.0.1)) (sym (map_itself x.0.0))),
+          ∙ ap line_of (c.as_slice.ensures.value ∙ c.in_ok-folded.ensures ∙ ap (λ y. back elements (line elements y.1) (map (λ z. z) y.0)) x.4 ∙ ap (back elements (line elements x.0.1)) (map-id x.0.0)),
     )

@@ -15,7 +15,7 @@ new_packed-requires g c =
 pub returns : goal.returns
 returns g c =
     let ring = g.EF.Additive.ring in
-    let whole = split_entries ring g.EF.ExtensionPacking.PackedFieldExtension.ext_lanes c.in_ok-split.split in
+    let whole = split_entries ring c.in_ok-split.split in
     c.eval_base.ensures
     ∙ ap (λ e. pair ring whole (map g.EF.Algebra.embed e)) c.as_view-view.ensures
     ∙ pair-unit ring g.met.EF.Additive.laws c.ONE.result c.args.point.now whole (map g.EF.Algebra.embed c.args.table.now)

@@ -1,21 +1,17 @@
-use Rattle.std.proofs.Common.{◌≡◌, ◌*◌, ◌∙◌, [], map, length, refl, ap, sym, arith}
-use Rattle.std.proofs.lemmas.Bool.Decides.{nat_tests}
+use Rattle.std.proofs.Common.{◌*◌, ◌∙◌, [], map, length, refl, ap, sym}
 use Rattle.std.proofs.lemmas.List.{take_all}
 use Rattle.mlu_ring.specs.Lanes.{logical}
 use Rattle.mlu_ring.specs.Sums.{sum_of}
 use Rattle.mlu_ring.specs.Tables.{pair}
 use Rattle.mlu_ring.proofs.Logical.{length-logical}
+use Rattle.mlu_ring.proofs.Rows.{length-row_of, map-row_of}
 use Rattle.mlu_ring.proofs.Totals.{total-zero}
 use Rattle.mlu_kernel.specs.Kernels.{double_sum}
-use Rattle.mlu_kernel.proofs.Blocks.{map-block}
 use Rattle.mlu_kernel.proofs.DoubleSums.{double_sum-none, total-row_more}
 use Rattle.mlu_kernel.proofs.dot.compress_hi_dot_packed_eager.Goals as goal
 
-pub returns-then-is_empty : goal.returns-then-is_empty
-returns-then-is_empty g c =
-    let none : length c.args.eq0.now ≡ 0 = grind (arith, nat_tests) in
-    let w = logical g.EF.ExtensionPacking.PackedFieldExtension.ext_lanes c.args.eq1.now in
-    c.ZERO.ensures ∙ g.met.EF.Additive.zero_is ∙ sym (double_sum-none g.EF.Additive.ring g.met.EF.Additive.laws c.args.eq0.now w (map g.EF.Algebra.embed c.args.chunk.now) none)
+pub row_dot_in_lanes-dot-requires : goal.row_dot_in_lanes-dot-requires
+row_dot_in_lanes-dot-requires g c = ap length c.row_of.ensures.row ∙ length-row_of c.args.chunk.now _ _ c.loop-j.j c.loop-j-test.true c.requires
 
 pub loop-j-init : goal.loop-j-init
 loop-j-init g c =
@@ -35,16 +31,17 @@ loop-j-preserved g c =
     let met = g.met.EF.ExtensionPacking.PackedFieldExtension in
     let w = logical packed.ext_lanes c.args.eq1.now in
     let e = map embed c.args.chunk.now in
-    let r = length c.args.eq1.now * c.WIDTH.result in
-    let long = ap (λ k. length c.args.eq1.now * k) c.WIDTH.ensures ∙ sym (length-logical packed.ext_lanes g.F.Packing.PackedValue.WIDTH met.lanes_are.length-parts c.args.eq1.now) in
+    let r = length c.args.eq1.now * g.F.Packing.PackedValue.WIDTH in
+    let long = sym (length-logical packed.ext_lanes g.F.Packing.PackedValue.WIDTH met.lanes_are.length-parts c.args.eq1.now) in
     let added = g.met.EF.ExtensionPacking.Additive.adds c.loop-j.sum c.scale.result c.add-sum.result c.add-sum.ensures in
-    let dot = c.packed_dot-dot.ensures ∙ ap (λ l. pair ring w l) (map-block embed c.args.chunk.now c.loop-j.j r r refl) in
+    let row = ap (map embed) c.row_of.ensures.row ∙ map-row_of embed c.args.chunk.now (length c.args.eq0.now) r c.loop-j.j c.loop-j-test.true c.requires in
+    let dot = c.row_dot_in_lanes-dot.ensures ∙ ap (pair ring w) row in
     ap (λ p. sum_of ring (packed.ext_lanes p)) (added ∙ ap (g.EF.ExtensionPacking.Additive.ring.sum c.loop-j.sum) c.scale.ensures)
     ∙ total-row_more g.EF.ExtensionPacking.Additive.ring ring g.met.EF.Additive.laws packed.ext_lanes packed.of_ext_lanes g.F.Packing.PackedValue.WIDTH met.lanes_are met.lane_by_lane
-    c.loop-j.sum c.packed_dot-dot.result (g.EF.ExtensionPacking.Algebra-1.embed c.index-eq0-j.result) c.args.eq0.now w e c.loop-j.j r c.index-eq0-j.result
+    c.loop-j.sum c.row_dot_in_lanes-dot.result (g.EF.ExtensionPacking.Algebra-1.embed c.index-eq0-j.result) c.args.eq0.now w e c.loop-j.j r c.index-eq0-j.result
     c.loop-j-test.true long c.index-eq0-j.is (met.embeds_element c.index-eq0-j.result) dot c.loop-j.invariant
 
 pub returns : goal.returns
 returns g c =
     let w = logical g.EF.ExtensionPacking.PackedFieldExtension.ext_lanes c.args.eq1.now in
-    c.lane_total.ensures ∙ c.loop-j.invariant ∙ ap (λ rows. double_sum g.EF.Additive.ring rows w (map g.EF.Algebra.embed c.args.chunk.now)) (take_all c.loop-j.j c.args.eq0.now c.loop-j-test.false)
+    c.lane_sum.ensures ∙ c.loop-j.invariant ∙ ap (λ rows. double_sum g.EF.Additive.ring rows w (map g.EF.Algebra.embed c.args.chunk.now)) (take_all c.loop-j.j c.args.eq0.now c.loop-j-test.false)

@@ -1,41 +1,19 @@
-use Rattle.std.proofs.Common.{◌≡◌, ◌*◌, ◌<◌, [], rules, ◌∙◌, map, take, drop, length, refl, ap, sym, arith}
-use Rattle.std.proofs.lemmas.Bool.Decides.{nat_tests}
-use Rattle.std.proofs.lemmas.List.{length-map, take_all}
+use Rattle.std.proofs.Common.{◌*◌, [], ◌∙◌, map, length, ap, sym, arith}
+use Rattle.std.proofs.lemmas.List.{take_all}
 use Rattle.mlu_ring.specs.Lanes.{logical}
+use Rattle.mlu_ring.specs.Matrices.{row_at}
 use Rattle.mlu_ring.proofs.Logical.{length-logical}
+use Rattle.mlu_ring.proofs.Rows.{length-row_of, map-row_of}
 use Rattle.mlu_kernel.specs.Kernels.{plus_rows}
-use Rattle.mlu_kernel.proofs.Blocks.{map-block, rows_end}
 use Rattle.mlu_kernel.proofs.PlusRows.{plus_rows-none, rows_more}
 use Rattle.mlu_kernel.proofs.prefix.compress_prefix_to_packed_packed_kernel_eager.Goals as goal
 
-pub returns-then-is_empty : goal.returns-then-is_empty
-returns-then-is_empty g c =
-    let ring = g.EF.Additive.ring in
-    let lanes = g.EF.ExtensionPacking.PackedFieldExtension.ext_lanes in
+pub add_rows_by_lane-requires : goal.add_rows_by_lane-requires
+add_rows_by_lane-requires g c =
     let n = g.F.Packing.PackedValue.WIDTH in
-    let old = logical lanes c.args.out.now in
-    let w = map (ring.product c.args.w0) (logical lanes c.args.eq1.now) in
-    let none : length c.args.eq1.now ≡ 0 = grind (arith, nat_tests) in
-    let long = length-map (logical lanes c.args.eq1.now) (ring.product c.args.w0) ∙ length-logical lanes n g.met.EF.ExtensionPacking.PackedFieldExtension.lanes_are.length-parts c.args.eq1.now in
-    sym (plus_rows-none ring g.met.EF.Additive.laws old w (map g.EF.Algebra.embed c.args.chunk.now) (ap (λ k. k * length old) (long ∙ ap (λ k. k * n) none) ∙ omega arith))
-
-pub overflow_mul-rows_length : goal.overflow_mul-rows_length
-overflow_mul-rows_length g c =
-    let some : 0 < length c.args.eq1.now = grind (arith, nat_tests) in
-    let end = rows_end _ 0 _ _ _ _ some c.WIDTH-width.ensures c.requires in
-    search rules
-
-pub overflow_mul-start : goal.overflow_mul-start
-overflow_mul-start g c = let end = rows_end _ _ _ _ _ _ c.loop-i-test.true c.WIDTH-width.ensures c.requires in search rules
-
-pub overflow_add-start : goal.overflow_add-start
-overflow_add-start g c = let end = rows_end _ _ _ _ _ _ c.loop-i-test.true c.WIDTH-width.ensures c.requires in search rules
-
-pub offset_bounds-chunk-start : goal.offset_bounds-chunk-start
-offset_bounds-chunk-start g c = let end = rows_end _ _ _ _ _ _ c.loop-i-test.true c.WIDTH-width.ensures c.requires in search rules
-
-pub slice_bounds-add_rows-end : goal.slice_bounds-add_rows-end
-slice_bounds-add_rows-end g c = let end = rows_end _ _ _ _ _ _ c.loop-i-test.true c.WIDTH-width.ensures c.requires in search rules
+    ap length c.row_of.ensures.row
+    ∙ length-row_of c.args.chunk.now (length c.args.eq1.now) (n * (length c.args.out.now * n)) c.loop-i.i c.loop-i-test.true c.requires
+    ∙ ap (λ k. n * (k * n)) (sym c.loop-i.auto.out)
 
 pub loop-i-init : goal.loop-i-init
 loop-i-init g c =
@@ -49,15 +27,15 @@ loop-i-preserved g c =
     let n = g.F.Packing.PackedValue.WIDTH in
     let ext = g.EF.ExtensionPacking.PackedFieldExtension in
     let met = g.met.EF.ExtensionPacking.PackedFieldExtension in
-    let old = logical ext.ext_lanes c.args.out.now in
     let between = logical ext.ext_lanes c.loop-i.out in
-    let r = c.WIDTH-width.result * (length c.args.out.now * c.WIDTH-width.result) in
-    let size = ap (λ k. k * (length c.args.out.now * k)) c.WIDTH-width.ensures ∙ ap (λ k. n * k) (sym (length-logical ext.ext_lanes n met.lanes_are.length-parts c.args.out.now)) in
-    c.add_rows.ensures
-    ∙ ap (λ rows. plus_rows ring between (ext.ext_lanes c.scale-weights.result) rows) (map-block embed c.args.chunk.now c.loop-i.i r r refl)
-    ∙ ap (λ p. plus_rows ring between (ext.ext_lanes p) (take r (drop (c.loop-i.i * r) (map embed c.args.chunk.now)))) c.scale-weights.ensures
+    let r = n * (length c.args.out.now * n) in
+    let size = ap (λ k. n * k) (sym (length-logical ext.ext_lanes n met.lanes_are.length-parts c.args.out.now)) in
+    let rows = ap (map embed) c.row_of.ensures.row ∙ map-row_of embed c.args.chunk.now (length c.args.eq1.now) r c.loop-i.i c.loop-i-test.true c.requires in
+    c.add_rows_by_lane.ensures
+    ∙ ap (plus_rows ring between (ext.ext_lanes c.scale.result)) rows
+    ∙ ap (λ p. plus_rows ring between (ext.ext_lanes p) (row_at r (map embed c.args.chunk.now) c.loop-i.i)) c.scale.ensures
     ∙ rows_more g.EF.ExtensionPacking.Additive.ring ring g.met.EF.Additive.laws ext.ext_lanes ext.of_ext_lanes n met.lanes_are met.lane_by_lane
-    c.args.eq1.now old (map embed c.args.chunk.now) between c.loop-i.i r c.args.w0 c.index-eq1-i.result (g.EF.ExtensionPacking.Algebra-1.embed c.args.w0)
+    c.args.eq1.now (logical ext.ext_lanes c.args.out.now) (map embed c.args.chunk.now) between c.loop-i.i r c.args.w0 c.index-eq1-i.result (g.EF.ExtensionPacking.Algebra-1.embed c.args.w0)
     c.loop-i-test.true size c.index-eq1-i.is (met.embeds_element c.args.w0) c.loop-i.invariant
 
 pub returns : goal.returns

@@ -10,8 +10,8 @@ use Rattle.multilinear_util.proofs.poly.Poly.new_from_point.Goals as goal
 pub new-requires : goal.new-requires
 new-requires g c =
     let ring = g.F.Additive.ring in
-    let out = c.fill.new.out in
+    let out = c.fill_equality_table.new.out in
     let table = map (ring.product c.args.scale) (weights ring c.args.point.now) in
     let long : c.in_ok-evals.evals.len ≡ length out = first_of (search rules, grind (arith, common_steps)) in
     let seam = ap (λ n. take n (out ++ drop (length out) c.in_ok-evals.evals.items)) long ∙ take-append_seam out (drop (length out) c.in_ok-evals.evals.items) in
-    is_power_of_two-power _ (length c.args.point.now) (ap length seam ∙ ap length c.fill.ensures ∙ length-map (weights ring c.args.point.now) (ring.product c.args.scale) ∙ length-weights ring c.args.point.now)
+    is_power_of_two-power _ (length c.args.point.now) (ap length seam ∙ ap length c.fill_equality_table.ensures ∙ length-map (weights ring c.args.point.now) (ring.product c.args.scale) ∙ length-weights ring c.args.point.now)

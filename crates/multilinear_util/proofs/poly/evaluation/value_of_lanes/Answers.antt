@@ -21,7 +21,7 @@ returns g c =
     let ext = g.EF.ExtensionPacking.PackedFieldExtension in
     let p = c.args.point.now in
     let values = logical ext.ext_lanes (entries c.args.poly) in
-    let whole = split_entries ring ext.ext_lanes c.in_ok-split.split in
+    let whole = split_entries ring c.in_ok-split.split in
     ok_more (λ x. x ≡ pair ring whole values) (λ x. x ≡ value ring values p)
     (λ x is. is ∙ pair-unit ring g.met.EF.Additive.laws c.ONE.result p whole values (c.ONE.ensures ∙ g.met.EF.Additive.one_is) c.in_ok-split.ensures.value)
     c.eval_packed.result c.eval_packed.ensures.value

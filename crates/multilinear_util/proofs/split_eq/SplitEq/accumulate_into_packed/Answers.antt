@@ -1,6 +1,4 @@
-use Rattle.std.proofs.Common.{◌*◌, ◌∙◌, length, arith}
-use Rattle.mlu_eq.specs.Weights.{weights_of}
-use Rattle.multilinear_util.specs.Split.{first_half, second_half}
+use Rattle.std.proofs.Common.{◌∙◌, arith}
 use Rattle.multilinear_util.proofs.Splits.{halves-size, room_for_lanes}
 use Rattle.multilinear_util.proofs.split_eq.SplitEq.accumulate_into_packed.Goals as goal
 
@@ -12,8 +10,4 @@ returns-then-num_variables-LOG_WIDTH-clause-packed g c packed wide =
     absurd (omega (arith, room, c.LOG_WIDTH.ensures))
 
 pub accumulate_into_packed-requires-clause-size : goal.accumulate_into_packed-requires-clause-size
-accumulate_into_packed-requires-clause-size g c =
-    let ring = g.EF.Additive.ring in
-    let split = c.args.self.now in
-    let w = weights_of g.EF.ExtensionPacking.PackedFieldExtension.ext_lanes (second_half split) in
-    halves-size ring (first_half split) w c.as_slice.result.now (length c.args.out.now * g.F.Packing.PackedValue.WIDTH) c.as_slice.ensures.value c.requires
+accumulate_into_packed-requires-clause-size g c = halves-size g.EF.Additive.ring c.args.self.now c.halves.result.0.now c.halves.result.1.now c.halves.ensures.first c.halves.ensures.second _ c.requires

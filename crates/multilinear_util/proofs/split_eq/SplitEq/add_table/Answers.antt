@@ -12,7 +12,7 @@ pub returns-clause-ok : goal.returns-clause-ok
 returns-clause-ok g c =
     let ring = g.EF.Additive.ring in
     let ext = g.EF.ExtensionPacking.PackedFieldExtension in
-    let whole = split_entries ring ext.ext_lanes c.args.self.now in
+    let whole = split_entries ring c.args.self.now in
     let entries = map (ring.product (scale_or_one ring c.args.scale)) whole in
     let new = c.accumulate_into.new.out in
     let old = c.in_ok-table.table.items in

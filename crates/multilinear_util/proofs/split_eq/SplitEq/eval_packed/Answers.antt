@@ -1,6 +1,4 @@
 use Rattle.std.proofs.Common.{◌*◌, length, ap, ◌∙◌}
-use Rattle.mlu_eq.specs.Weights.{weights_of}
-use Rattle.multilinear_util.specs.Split.{first_half, second_half}
 use Rattle.multilinear_util.proofs.Splits.{halves-size}
 use Rattle.mlu_ring.proofs.Logical.{length-logical}
 use Rattle.multilinear_util.specs.Views.{entries}
@@ -17,9 +15,5 @@ eval_ext-requires g c =
 
 pub dot_packed-requires-clause-size : goal.dot_packed-requires-clause-size
 dot_packed-requires-clause-size g c =
-    let ring = g.EF.Additive.ring in
-    let split = c.args.self.now in
-    let w = weights_of g.EF.ExtensionPacking.PackedFieldExtension.ext_lanes (second_half split) in
     let width = g.F.Packing.PackedValue.WIDTH in
-    halves-size ring (first_half split) w c.as_slice.result.now (length c.as_slice-2.result.now * width) c.as_slice.ensures.value
-    (ap (λ l. length l * width) c.as_slice-2.ensures.value ∙ c.requires)
+    halves-size g.EF.Additive.ring c.args.self.now c.halves.result.0.now c.halves.result.1.now c.halves.ensures.first c.halves.ensures.second _ (ap (λ l. length l * width) c.as_slice.ensures.value ∙ c.requires)

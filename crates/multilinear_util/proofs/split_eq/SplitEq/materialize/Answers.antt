@@ -11,7 +11,7 @@ use Rattle.multilinear_util.proofs.split_eq.SplitEq.materialize.Goals as goal
 pub returns : goal.returns
 returns g c =
     let ring = g.EF.Additive.ring in
-    let whole = split_entries ring g.EF.ExtensionPacking.PackedFieldExtension.ext_lanes c.args.self.now in
+    let whole = split_entries ring c.args.self.now in
     let entries = map (ring.product ring.one) whole in
     let new = c.accumulate_into.new.out in
     let old = c.in_ok-table.table in

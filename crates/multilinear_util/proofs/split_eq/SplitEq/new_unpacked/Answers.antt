@@ -22,7 +22,7 @@ returns-clause-value g c =
     let second = c.split_at.result.1.now in
     let whole : first ++ second ≡ p = ap (λ xs. xs ++ second) c.split_at.ensures.front ∙ ap (λ xs. take k coordinates ++ xs) c.split_at.ensures.back ∙ take-append-drop k coordinates ∙ c.as_slice-coordinates.ensures in
     split-made g.EF.Additive.ring g.met.EF.Additive.laws c.args.scale c.ONE.result p first second _ _ (c.ONE.ensures ∙ g.met.EF.Additive.one_is) whole
-    c.in_ok-eq0.ensures (c.from_scalars.ensures.value ∙ c.into_evals.ensures.value ∙ c.in_ok-eq1.ensures)
+    c.in_ok-eq0.ensures (ap (λ half. half.weights) c.from_scalars.ensures ∙ c.into_evals.ensures.value ∙ c.in_ok-eq1.ensures)
 
 pub returns-clause-size : goal.returns-clause-size
 returns-clause-size g c = split-size g.EF.Additive.ring g.met.EF.Additive.laws c.args.scale c.args.point.now _ (returns-clause-value g c)
@@ -35,5 +35,5 @@ returns-clause-halves g c =
     let second : c.split_at.result.1.now ≡ drop (length p / 2) p = c.split_at.ensures.back ∙ ap (λ xs. drop (length xs / 2) xs) c.as_slice-coordinates.ensures in
     record {
       first = c.in_ok-eq0.ensures ∙ ap (λ q. map (ring.product c.args.scale) (weights ring q)) first;
-      second = c.from_scalars.ensures.value ∙ c.into_evals.ensures.value ∙ c.in_ok-eq1.ensures ∙ map-one ring g.met.EF.Additive.laws c.ONE.result (weights ring c.split_at.result.1.now) (c.ONE.ensures ∙ g.met.EF.Additive.one_is) ∙ ap (λ q. weights ring q) second;
+      second = ap (λ half. half.weights) c.from_scalars.ensures ∙ c.into_evals.ensures.value ∙ c.in_ok-eq1.ensures ∙ map-one ring g.met.EF.Additive.laws c.ONE.result (weights ring c.split_at.result.1.now) (c.ONE.ensures ∙ g.met.EF.Additive.one_is) ∙ ap (λ q. weights ring q) second;
     }

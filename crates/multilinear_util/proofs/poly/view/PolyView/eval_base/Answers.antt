@@ -12,5 +12,5 @@ new_packed-requires g c =
 pub returns-clause-value : goal.returns-clause-value
 returns-clause-value g c =
     c.eval_base-2.ensures
-    ∙ pair-unit g.EF.Additive.ring g.met.EF.Additive.laws c.ONE.result c.args.point.now (split_entries g.EF.Additive.ring g.EF.ExtensionPacking.PackedFieldExtension.ext_lanes c.in_ok-split.split) (map g.EF.Algebra.embed (entries c.args.self.now))
+    ∙ pair-unit g.EF.Additive.ring g.met.EF.Additive.laws c.ONE.result c.args.point.now (split_entries g.EF.Additive.ring c.in_ok-split.split) (map g.EF.Algebra.embed (entries c.args.self.now))
     (c.ONE.ensures ∙ g.met.EF.Additive.one_is) c.in_ok-split.ensures.value

@@ -12,5 +12,5 @@ new_packed-requires g c =
 pub returns-clause-value : goal.returns-clause-value
 returns-clause-value g c =
     c.eval_ext-2.ensures
-    ∙ pair-unit g.F.Additive.ring g.met.F.Additive.laws c.ONE.result c.args.point.now (split_entries g.F.Additive.ring g.F.ExtensionPacking.PackedFieldExtension.ext_lanes c.in_ok-split.split) (entries c.args.self.now)
+    ∙ pair-unit g.F.Additive.ring g.met.F.Additive.laws c.ONE.result c.args.point.now (split_entries g.F.Additive.ring c.in_ok-split.split) (entries c.args.self.now)
     (c.ONE.ensures ∙ g.met.F.Additive.one_is) c.in_ok-split.ensures.value

@@ -13,5 +13,5 @@ new_packed-requires g c =
 pub returns : goal.returns
 returns g c =
     c.eval_next_base.ensures
-    ∙ pair-next_unit g.EF.Additive.ring g.met.EF.Additive.laws c.ONE.result c.args.point.now (split_entries g.EF.Additive.ring g.EF.ExtensionPacking.PackedFieldExtension.ext_lanes c.in_ok-split.split) (map g.EF.Algebra.embed (entries c.args.self.now))
+    ∙ pair-next_unit g.EF.Additive.ring g.met.EF.Additive.laws c.ONE.result c.args.point.now (split_entries g.EF.Additive.ring c.in_ok-split.split) (map g.EF.Algebra.embed (entries c.args.self.now))
     (c.ONE.ensures ∙ g.met.EF.Additive.one_is) c.in_ok-split.ensures.value

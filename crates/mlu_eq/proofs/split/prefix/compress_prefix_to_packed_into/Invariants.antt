@@ -1,0 +1,11 @@
+use Rattle.std.proofs.Common.{◌≡◌, map, take}
+use Rattle.mlu_ring.specs.Lanes.{logical}
+use Rattle.mlu_kernel.specs.Kernels.{plus_rows}
+use Rattle.mlu_eq.specs.Split.{contents}
+use Rattle.mlu_eq.proofs.split.prefix.compress_prefix_to_packed_into.Given as goal
+
+abbrev pub invariant-loop-j : goal.invariant-loop-j
+invariant-loop-j g l =
+    let ring = g.EF.Additive.ring in
+    let lanes = g.EF.ExtensionPacking.PackedFieldExtension.ext_lanes in
+    logical lanes l.out ≡ plus_rows ring (logical lanes l.initial.out) (contents ring (take l.j l.eq0) (l.eq1.weights)) (map g.EF.Algebra.embed l.entries)

@@ -1,0 +1,16 @@
+//! A table in two halves: `eq0`, a slice, and `eq1`, scalar or packed weights.
+//!
+//! The kernels never form the whole table: its entry `x` is `eq0[x / n] * w[x % n]`, where `w` are
+//! the `n` weights of `eq1`. None of them takes memory.
+
+pub(crate) mod accumulate;
+mod dot;
+mod prefix;
+mod shifted;
+mod suffix;
+
+pub use accumulate::{accumulate_into, accumulate_into_packed};
+pub use dot::{dot_base, dot_ext, dot_packed};
+pub use prefix::{compress_prefix_into, compress_prefix_to_packed_into};
+pub use shifted::{compress_prefix_shifted_into, compress_suffix_shifted_into, dot_base_shifted};
+pub use suffix::compress_suffix_into;

@@ -1,0 +1,117 @@
+//! The split table, times a scale, added to an output.
+ghost use Rattle.std.specs.Prelude.{◌≡◌, ◌*◌, length, map, IsTrue};
+ghost use Rattle.mlu_ring.specs.Sums.{plus_scaled};
+ghost use Rattle.mlu_ring.specs.Lanes.{logical};
+ghost use Rattle.mlu_eq.specs.Split.{contents};
+
+use crate::half::{EqMaybePacked, Weights};
+use mlu_ring::{
+    Additive, Algebra, ExtensionField, Field, Lanewise, PackedFieldExtension, PackedValue,
+    PrimeCharacteristicRing,
+};
+
+/// Adds each entry of the split table, times `scale`, to its place of `out`. Asks for as many
+/// places as the split table has entries.
+pub fn accumulate_into<F: Field, EF: ExtensionField<F>>(
+    eq0: &[EF],
+    eq1: &EqMaybePacked<F, EF>,
+    out: &mut [EF],
+    scale: EF,
+)
+    requires { length out.old ≡ length eq0.now * length eq1.now.weights }
+    ensures { out.new ≡ plus_scaled EF.ring out.old scale (contents EF.ring eq0.now eq1.now.weights) }
+{
+    if eq0.is_empty() {
+        return;
+    }
+    let row_length = eq1.num_scalar_evals();
+    for j in 0..eq0.len() {
+        let start = j * row_length;
+        add_weights(eq1, &mut out[start..start + row_length], scale * eq0[j]);
+    }
+}
+
+/// The same with packed places, which stand for their lanes. Asks for packed weights, and for
+/// as many lanes as the split table has entries.
+pub fn accumulate_into_packed<F: Field, EF: ExtensionField<F>>(
+    eq0: &[EF],
+    eq1: &EqMaybePacked<F, EF>,
+    out: &mut [EF::ExtensionPacking],
+    scale: EF,
+)
+    requires packed { IsTrue eq1.now.packed }
+    requires size { length out.old * F.Packing.WIDTH ≡ length eq0.now * length eq1.now.weights }
+    ensures { logical EF.ExtensionPacking.ext_lanes out.new
+        ≡ plus_scaled EF.ring (logical EF.ExtensionPacking.ext_lanes out.old) scale (contents EF.ring eq0.now eq1.now.weights) }
+{
+    match eq1.weights() {
+        Weights::Packed(weights) => {
+            add_packed_rows::<F, EF>(eq0, out, weights, scale);
+        }
+        Weights::Scalar(_) => unreachable!(),
+    }
+}
+
+/// Adds each weight, times `factor`, to its place of `row`.
+pub(crate) fn add_weights<F: Field, EF: ExtensionField<F>>(
+    eq1: &EqMaybePacked<F, EF>,
+    row: &mut [EF],
+    factor: EF,
+)
+    requires { length row.old ≡ length eq1.now.weights }
+    ensures { row.new ≡ plus_scaled EF.ring row.old factor eq1.now.weights }
+{
+    match eq1.weights() {
+        Weights::Scalar(weights) => add_multiple(row, weights, factor),
+        Weights::Packed(weights) => add_lanes::<F, EF>(row, weights, factor),
+    }
+}
+
+/// Adds each of the weights, times `scale` and an entry of `eq0`, to its place in that entry's row.
+fn add_packed_rows<F: Field, EF: ExtensionField<F>>(
+    eq0: &[EF],
+    out: &mut [EF::ExtensionPacking],
+    weights: &[EF::ExtensionPacking],
+    scale: EF,
+)
+    requires { length out.old ≡ length eq0.now * length weights.now }
+    ensures { logical EF.ExtensionPacking.ext_lanes out.new
+        ≡ plus_scaled EF.ring (logical EF.ExtensionPacking.ext_lanes out.old) scale (contents EF.ring eq0.now (logical EF.ExtensionPacking.ext_lanes weights.now)) }
+{
+    for j in 0..eq0.len() {
+        let start = j * weights.len();
+        let factor = <EF::ExtensionPacking as Algebra<EF>>::from_base(scale * eq0[j]);
+        add_multiple(&mut out[start..start + weights.len()], weights, factor);
+    }
+}
+
+/// Adds each weight, times `factor`, to its place of `out`.
+#[inline]
+pub(crate) fn add_multiple<R: PrimeCharacteristicRing>(out: &mut [R], weights: &[R], factor: R)
+    requires { length out.old ≡ length weights.now }
+    ensures { out.new ≡ plus_scaled R.ring out.old factor weights.now }
+{
+    for i in 0..out.len() {
+        out[i] = out[i] + factor * weights[i];
+    }
+}
+
+/// Adds each lane, times `factor`, to its place of `out`.
+#[inline]
+pub(crate) fn add_lanes<F: Field, EF: ExtensionField<F>>(
+    out: &mut [EF],
+    weights: &[EF::ExtensionPacking],
+    factor: EF,
+)
+    requires { length out.old ≡ length weights.now * F.Packing.WIDTH }
+    ensures { out.new ≡ plus_scaled EF.ring out.old factor (logical EF.ExtensionPacking.ext_lanes weights.now) }
+{
+    let width = F::Packing::WIDTH;
+    let factors = <EF::ExtensionPacking as Algebra<EF>>::from_base(factor);
+    for i in 0..weights.len() {
+        let start = i * width;
+        let group = &mut out[start..start + width];
+        let sum = EF::ExtensionPacking::from_ext_slice(group) + factors * weights[i];
+        sum.store_ext(group);
+    }
+}

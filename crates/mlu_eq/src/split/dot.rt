@@ -1,0 +1,151 @@
+//! Sums of the entries of a table, each times its weight in the split table.
+ghost use Rattle.std.specs.Prelude.{◌≡◌, ◌*◌, length, map, IsTrue};
+ghost use Rattle.mlu_ring.specs.Lanes.{logical};
+ghost use Rattle.mlu_ring.specs.Sums.{sum_of};
+ghost use Rattle.mlu_ring.specs.Tables.{pair};
+ghost use Rattle.mlu_kernel.specs.Kernels.{double_sum};
+ghost use Rattle.mlu_eq.specs.Split.{contents};
+
+use crate::half::{EqMaybePacked, Weights};
+use mlu_kernel::compress_hi_dot_packed;
+use mlu_kernel::one_row::lane_sum;
+use mlu_ring::{
+    Additive, Algebra, ExtensionField, Field, Lanewise, PackedFieldExtension, PackedValue,
+    PrimeCharacteristicRing, row_of,
+};
+
+/// The sum of the base entries, each times its weight. Asks for as many entries as the split
+/// table has.
+pub fn dot_base<F: Field, EF: ExtensionField<F>>(
+    eq0: &[EF],
+    eq1: &EqMaybePacked<F, EF>,
+    entries: &[F],
+) -> EF
+    requires { length entries.now ≡ length eq0.now * length eq1.now.weights }
+    ensures { result ≡ pair EF.ring (contents EF.ring eq0.now eq1.now.weights) (map EF.embed entries.now) }
+{
+    match eq1.weights() {
+        Weights::Scalar(weights) => dot_of_rows(eq0, weights, entries),
+        Weights::Packed(weights) => { compress_hi_dot_packed::<F, EF>(weights, entries, eq0) }
+    }
+}
+
+/// The sum of the entries, each times its weight. Asks for as many entries as the split table
+/// has.
+pub fn dot_ext<F: Field, EF: ExtensionField<F>>(
+    eq0: &[EF],
+    eq1: &EqMaybePacked<F, EF>,
+    entries: &[EF],
+) -> EF
+    requires { length entries.now ≡ length eq0.now * length eq1.now.weights }
+    ensures { result ≡ pair EF.ring (contents EF.ring eq0.now eq1.now.weights) entries.now }
+{
+    let mut sum = EF::ZERO;
+    for j in 0..eq0.len() {
+        sum = sum + eq0[j] * row_dot(eq1, row_of(entries, eq0.len(), j));
+    }
+    sum
+}
+
+/// The sum of the lanes of the entries, each times its weight. Asks for packed weights, and
+/// for as many lanes as the split table has entries.
+pub fn dot_packed<F: Field, EF: ExtensionField<F>>(
+    eq0: &[EF],
+    eq1: &EqMaybePacked<F, EF>,
+    entries: &[EF::ExtensionPacking],
+) -> EF
+    requires packed { IsTrue eq1.now.packed }
+    requires size { length entries.now * F.Packing.WIDTH ≡ length eq0.now * length eq1.now.weights }
+    ensures { result ≡ pair EF.ring (contents EF.ring eq0.now eq1.now.weights) (logical EF.ExtensionPacking.ext_lanes entries.now) }
+{
+    match eq1.weights() {
+        Weights::Packed(weights) => dot_of_packed_rows::<F, EF>(eq0, weights, entries),
+        Weights::Scalar(_) => unreachable!(),
+    }
+}
+
+/// The dot of the weights with one row.
+fn row_dot<F: Field, EF: ExtensionField<F>>(eq1: &EqMaybePacked<F, EF>, row: &[EF]) -> EF
+    requires { length row.now ≡ length eq1.now.weights }
+    ensures { result ≡ pair EF.ring eq1.now.weights row.now }
+{
+    match eq1.weights() {
+        Weights::Scalar(weights) => dot(weights, row),
+        Weights::Packed(weights) => lane_sum::<F, EF>(group_dot::<F, EF>(weights, row)),
+    }
+}
+
+/// The sum of the rows' dots with `weights`, each times its entry of `eq0`.
+fn dot_of_rows<F: Additive, EF: Algebra<F>>(eq0: &[EF], weights: &[EF], entries: &[F]) -> EF
+    requires { length entries.now ≡ length eq0.now * length weights.now }
+    ensures { result ≡ double_sum EF.ring eq0.now weights.now (map EF.embed entries.now) }
+{
+    let mut sum = EF::ZERO;
+    for j in 0..eq0.len() {
+        sum = sum + eq0[j] * base_dot(weights, row_of(entries, eq0.len(), j));
+    }
+    sum
+}
+
+/// The same of packed rows, whose lanes are added up at the end, once.
+fn dot_of_packed_rows<F: Field, EF: ExtensionField<F>>(
+    eq0: &[EF],
+    weights: &[EF::ExtensionPacking],
+    entries: &[EF::ExtensionPacking],
+) -> EF
+    requires { length entries.now ≡ length eq0.now * length weights.now }
+    ensures { result ≡ double_sum EF.ring eq0.now
+        (logical EF.ExtensionPacking.ext_lanes weights.now) (logical EF.ExtensionPacking.ext_lanes entries.now) }
+{
+    let mut sum = EF::ExtensionPacking::ZERO;
+    for j in 0..eq0.len() {
+        sum = sum + dot(weights, row_of(entries, eq0.len(), j)).scale(eq0[j]);
+    }
+    lane_sum::<F, EF>(sum)
+}
+
+/// The sum of the products of weights and base entries.
+#[inline]
+pub(super) fn base_dot<F: Additive, EF: Algebra<F>>(weights: &[EF], entries: &[F]) -> EF
+    requires { length entries.now ≡ length weights.now }
+    ensures { result ≡ pair EF.ring weights.now (map EF.embed entries.now) }
+{
+    let mut sum = EF::ZERO;
+    for i in 0..weights.len() {
+        sum = sum + weights[i].scale(entries[i]);
+    }
+    sum
+}
+
+/// The sum of the products of weights and entries.
+#[inline]
+fn dot<R: PrimeCharacteristicRing>(weights: &[R], entries: &[R]) -> R
+    requires { length entries.now ≡ length weights.now }
+    ensures { result ≡ pair R.ring weights.now entries.now }
+{
+    let mut sum = R::ZERO;
+    for i in 0..weights.len() {
+        sum = sum + weights[i] * entries[i];
+    }
+    sum
+}
+
+/// The packed weights times groups of entries: a value whose lanes add up to the dot.
+#[inline]
+fn group_dot<F: Field, EF: ExtensionField<F>>(
+    weights: &[EF::ExtensionPacking],
+    entries: &[EF],
+) -> EF::ExtensionPacking
+    requires { length entries.now ≡ length weights.now * F.Packing.WIDTH }
+    ensures { sum_of EF.ring (EF.ExtensionPacking.ext_lanes result)
+        ≡ pair EF.ring (logical EF.ExtensionPacking.ext_lanes weights.now) entries.now }
+{
+    let width = F::Packing::WIDTH;
+    let mut sum = EF::ExtensionPacking::ZERO;
+    for i in 0..weights.len() {
+        let start = i * width;
+        let group = EF::ExtensionPacking::from_ext_slice(&entries[start..start + width]);
+        sum = sum + weights[i] * group;
+    }
+    sum
+}

@@ -1,0 +1,159 @@
+//! The rows of a table, each times its weight in the split table, added to an output.
+ghost use Rattle.std.specs.Prelude.{◌≡◌, ◌∷◌, [], ◌*◌, length, map};
+ghost use Rattle.mlu_ring.specs.Lanes.{logical};
+ghost use Rattle.mlu_kernel.specs.Kernels.{plus_rows};
+ghost use Rattle.mlu_eq.specs.Split.{contents};
+
+use crate::half::{EqMaybePacked, Weights};
+use mlu_kernel::compress_prefix_to_packed_packed;
+use mlu_kernel::one_row::add_row_times;
+use mlu_ring::{
+    Additive, Algebra, ExtensionField, Field, Lanewise, PackedFieldExtension, PackedValue, row_of,
+};
+
+/// Adds a row of `entries` to `out` for each entry of the split table, times that entry. The
+/// rows are as long as `out`; `eq0` may be a run of a first half, with the rows of that run.
+///
+/// Asks for as many rows as the split table has entries.
+pub fn compress_prefix_into<F: Field, EF: ExtensionField<F>>(
+    eq0: &[EF],
+    eq1: &EqMaybePacked<F, EF>,
+    out: &mut [EF],
+    entries: &[F],
+)
+    requires { length entries.now ≡ length eq0.now * (length eq1.now.weights * length out.old) }
+    ensures { out.new ≡ plus_rows EF.ring out.old (contents EF.ring eq0.now eq1.now.weights) (map EF.embed entries.now) }
+{
+    for j in 0..eq0.len() {
+        add_rows(eq1, eq0[j], out, row_of(entries, eq0.len(), j));
+    }
+}
+
+/// The same with a packed output, which stands for its lanes: a row is as long as `out` has
+/// lanes.
+pub fn compress_prefix_to_packed_into<F: Field, EF: ExtensionField<F>>(
+    eq0: &[EF],
+    eq1: &EqMaybePacked<F, EF>,
+    out: &mut [EF::ExtensionPacking],
+    entries: &[F],
+)
+    requires { length entries.now ≡ length eq0.now * (length eq1.now.weights * (length out.old * F.Packing.WIDTH)) }
+    ensures { logical EF.ExtensionPacking.ext_lanes out.new
+        ≡ plus_rows EF.ring (logical EF.ExtensionPacking.ext_lanes out.old) (contents EF.ring eq0.now eq1.now.weights) (map EF.embed entries.now) }
+{
+    for j in 0..eq0.len() {
+        add_rows_to_packed(eq1, eq0[j], out, row_of(entries, eq0.len(), j));
+    }
+}
+
+/// Adds a row for each weight, times the weight and `factor`.
+fn add_rows<F: Field, EF: ExtensionField<F>>(
+    eq1: &EqMaybePacked<F, EF>,
+    factor: EF,
+    out: &mut [EF],
+    rows: &[F],
+)
+    requires { length rows.now ≡ length eq1.now.weights * length out.old }
+    ensures { out.new ≡ plus_rows EF.ring out.old (map (EF.ring.product factor) eq1.now.weights) (map EF.embed rows.now) }
+{
+    match eq1.weights() {
+        Weights::Scalar(weights) => add_scalar_rows(factor, weights, out, rows),
+        Weights::Packed(weights) => {
+            add_lane_rows::<F, EF>(factor, weights, out, rows);
+        }
+    }
+}
+
+/// Adds a row for each weight, times the weight and `factor`, to a packed output.
+fn add_rows_to_packed<F: Field, EF: ExtensionField<F>>(
+    eq1: &EqMaybePacked<F, EF>,
+    factor: EF,
+    out: &mut [EF::ExtensionPacking],
+    rows: &[F],
+)
+    requires { length rows.now ≡ length eq1.now.weights * (length out.old * F.Packing.WIDTH) }
+    ensures { logical EF.ExtensionPacking.ext_lanes out.new
+        ≡ plus_rows EF.ring (logical EF.ExtensionPacking.ext_lanes out.old) (map (EF.ring.product factor) eq1.now.weights) (map EF.embed rows.now) }
+{
+    match eq1.weights() {
+        Weights::Scalar(weights) => {
+            add_scalar_rows_to_packed::<F, EF>(factor, weights, out, rows);
+        }
+        Weights::Packed(weights) => {
+            compress_prefix_to_packed_packed(out, weights, rows, factor);
+        }
+    }
+}
+
+/// Adds a row for each weight, times the weight and `factor`.
+pub(super) fn add_scalar_rows<F: Additive, EF: Algebra<F>>(
+    factor: EF,
+    weights: &[EF],
+    out: &mut [EF],
+    rows: &[F],
+)
+    requires { length rows.now ≡ length weights.now * length out.old }
+    ensures { out.new ≡ plus_rows EF.ring out.old (map (EF.ring.product factor) weights.now) (map EF.embed rows.now) }
+{
+    for i in 0..weights.len() {
+        add_scalar_row(out, factor * weights[i], row_of(rows, weights.len(), i));
+    }
+}
+
+/// Adds a row for each lane of the weights, times the lane and `factor`.
+pub(super) fn add_lane_rows<F: Field, EF: ExtensionField<F>>(
+    factor: EF,
+    weights: &[EF::ExtensionPacking],
+    out: &mut [EF],
+    rows: &[F],
+)
+    requires { length rows.now ≡ length weights.now * (F.Packing.WIDTH * length out.old) }
+    ensures { out.new ≡ plus_rows EF.ring out.old (map (EF.ring.product factor) (logical EF.ExtensionPacking.ext_lanes weights.now)) (map EF.embed rows.now) }
+{
+    for i in 0..weights.len() {
+        let scaled = weights[i].scale(factor);
+        add_group_rows::<F, EF>(scaled, out, row_of(rows, weights.len(), i));
+    }
+}
+
+/// Adds a row for each lane of one packed weight, times the lane.
+fn add_group_rows<F: Field, EF: ExtensionField<F>>(
+    weights: EF::ExtensionPacking,
+    out: &mut [EF],
+    rows: &[F],
+)
+    requires { length rows.now ≡ F.Packing.WIDTH * length out.old }
+    ensures { out.new ≡ plus_rows EF.ring out.old (EF.ExtensionPacking.ext_lanes weights) (map EF.embed rows.now) }
+{
+    for k in 0..F::Packing::WIDTH {
+        add_scalar_row(out, weights.ext_lane(k), row_of(rows, F::Packing::WIDTH, k));
+    }
+}
+
+/// Adds a row for each scalar weight, times the weight and `factor`, to a packed output.
+fn add_scalar_rows_to_packed<F: Field, EF: ExtensionField<F>>(
+    factor: EF,
+    weights: &[EF],
+    out: &mut [EF::ExtensionPacking],
+    rows: &[F],
+)
+    requires { length rows.now ≡ length weights.now * (length out.old * F.Packing.WIDTH) }
+    ensures { logical EF.ExtensionPacking.ext_lanes out.new
+        ≡ plus_rows EF.ring (logical EF.ExtensionPacking.ext_lanes out.old) (map (EF.ring.product factor) weights.now) (map EF.embed rows.now) }
+{
+    for i in 0..weights.len() {
+        let row = row_of(rows, weights.len(), i);
+        add_row_times::<F, EF>(out, factor * weights[i], row);
+    }
+}
+
+/// Adds one row, times its weight.
+#[inline]
+pub(super) fn add_scalar_row<F: Additive, EF: Algebra<F>>(out: &mut [EF], weight: EF, row: &[F])
+    requires { length row.now ≡ length out.old }
+    ensures { out.new ≡ plus_rows EF.ring out.old (weight ∷ []) (map EF.embed row.now) }
+{
+    for z in 0..out.len() {
+        out[z] = out[z] + weight.scale(row[z]);
+    }
+}

@@ -1,0 +1,62 @@
+//! One row against packed values. These calls are for the split tables of `mlu_eq`, not for users
+//! of the library.
+ghost use Rattle.std.specs.Prelude.{◌≡◌, ◌∷◌, [], ◌*◌, length, map};
+ghost use Rattle.mlu_ring.specs.Lanes.{logical};
+ghost use Rattle.mlu_ring.specs.Sums.{sum_of};
+ghost use Rattle.mlu_ring.specs.Tables.{pair};
+ghost use Rattle.mlu_kernel.specs.Kernels.{plus_rows};
+
+use mlu_ring::{
+    Additive, Algebra, ExtensionField, Field, Lanewise, PackedFieldExtension, PackedValue,
+    row_of_width,
+};
+
+/// The packed weights times a row: a value whose lanes add up to the dot. Asks for as many entries
+/// as the weights have lanes.
+#[inline]
+pub fn row_dot_in_lanes<F: Field, EF: ExtensionField<F>>(
+    weights: &[EF::ExtensionPacking],
+    row: &[F],
+) -> EF::ExtensionPacking
+    requires { length row.now ≡ length weights.now * F.Packing.WIDTH }
+    ensures { sum_of EF.ring (EF.ExtensionPacking.ext_lanes result)
+        ≡ pair EF.ring (logical EF.ExtensionPacking.ext_lanes weights.now) (map EF.embed row.now) }
+{
+    let mut sum = EF::ExtensionPacking::ZERO;
+    for i in 0..weights.len() {
+        let block = F::Packing::load(row_of_width(row, F::Packing::WIDTH, i));
+        sum = sum + weights[i].scale(block);
+    }
+    sum
+}
+
+/// The sum of the lanes of a packed value.
+#[inline]
+pub fn lane_sum<F: Field, EF: ExtensionField<F>>(packed: EF::ExtensionPacking) -> EF
+    ensures { result ≡ sum_of EF.ring (EF.ExtensionPacking.ext_lanes packed) }
+{
+    let mut sum = EF::ZERO;
+    for k in 0..F::Packing::WIDTH {
+        sum = sum + packed.ext_lane(k);
+    }
+    sum
+}
+
+/// Adds a row, times its weight, to a packed output. Asks for as many entries as `out` has lanes.
+#[inline]
+pub fn add_row_times<F: Field, EF: ExtensionField<F>>(
+    out: &mut [EF::ExtensionPacking],
+    weight: EF,
+    row: &[F],
+)
+    requires { length row.now ≡ length out.old * F.Packing.WIDTH }
+    ensures { logical EF.ExtensionPacking.ext_lanes out.new
+        ≡ plus_rows EF.ring (logical EF.ExtensionPacking.ext_lanes out.old)
+        (weight ∷ []) (map EF.embed row.now) }
+{
+    let weights = EF::ExtensionPacking::from_base(weight);
+    for z in 0..out.len() {
+        let block = F::Packing::load(row_of_width(row, F::Packing::WIDTH, z));
+        out[z] = out[z] + weights.scale(block);
+    }
+}

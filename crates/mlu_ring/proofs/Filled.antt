@@ -1,0 +1,25 @@
+-- A list that a loop fills place by place.
+use Rattle.std.proofs.Common.{◌≡◌, ◌<◌, ◌≤◌, ◌≢◌, ◌+◌, ℕ, List, length, map, get_or, set, sym, ap, ◌∙◌, arith, get_or-set_other, get_or-set_same, below_more}
+use Rattle.std.proofs.lemmas.List.{ext_get_or, get_or-map, get_or_default}
+
+module _ {A : Type 0} (d : A) where
+  -- below n the list xs has the entries of ys
+  abbrev pub IsFilled : List A → List A → ℕ → Type 0
+  IsFilled xs ys n = (k : ℕ) → k < n → get_or xs k d ≡ get_or ys k d
+
+  pub filled_next : (xs ys : List A) (n : ℕ) (x : A) → n < length xs → IsFilled xs ys n → x ≡ get_or ys n d → IsFilled (set xs n x) ys (n + 1)
+  filled_next xs ys n x room done e =
+      below_more _ _
+      (λ k h. let other : k ≢ n = omega arith in get_or-set_other xs n k x d other ∙ done k h)
+      (get_or-set_same xs n x d room ∙ e)
+
+  pub filled_whole : (xs ys : List A) (n : ℕ) → length xs ≤ n → length xs ≡ length ys → IsFilled xs ys n → xs ≡ ys
+  filled_whole xs ys n h e done = ext_get_or d xs ys e (λ k below. done k (omega arith))
+
+  -- what is read of a list, at another default
+  pub read_default : (xs ys : List A) (i : ℕ) (x : A) → i < length xs → x ≡ get_or xs i x → xs ≡ ys → x ≡ get_or ys i d
+  read_default xs ys i x h is e = is ∙ get_or_default xs i x d h ∙ ap (λ l. get_or l i d) e
+
+-- the image of what is read of a list
+pub read_image : {E A : Type 0} (f : E → A) (xs : List E) (i : ℕ) (x : E) (d : A) → i < length xs → x ≡ get_or xs i x → f x ≡ get_or (map f xs) i d
+read_image f xs i x d h is = ap f is ∙ sym (get_or-map f xs i x d h)

@@ -1,0 +1,20 @@
+-- Tables compressed at a point that stands for the first or the last of their variables.
+use Rattle.std.specs.Prelude.{◌≡◌, ℕ, ◌+◌, ◌^◌, ◌++◌, List, map, length}
+use Rattle.mlu_ring.specs.Ring.{Ring}
+use Rattle.mlu_ring.specs.Tables.{weights, front, back, value}
+
+-- the rows of the table, each times its weight at the point and the scale, added up
+abbrev pub prefix_compressed : {R : Type 0} → Ring R → R → List R → List R → List R
+prefix_compressed ring scale p e = map (ring.product scale) (front ring (weights ring p) e)
+
+-- the dots of the weights at the point with the rows of the table, times the scale
+abbrev pub suffix_compressed : {R : Type 0} → Ring R → R → List R → List R → List R
+suffix_compressed ring scale p e = map (ring.product scale) (back ring (weights ring p) e)
+
+-- of a table of n entries: the value of what is left is that of the table at the point and what follows it, times the scale
+abbrev pub IsJoinedAfter : {R : Type 0} → Ring R → R → List R → ℕ → List R → List R → Type 0
+IsJoinedAfter {R} ring scale p n e left = (rest : List R) → n ≡ 2 ^ (length p + length rest) → value ring left rest ≡ ring.product scale (value ring e (p ++ rest))
+
+-- of a table of n entries: the value of what is left is that of the table at what is before the point and the point, times the scale
+abbrev pub IsJoinedBefore : {R : Type 0} → Ring R → R → List R → ℕ → List R → List R → Type 0
+IsJoinedBefore {R} ring scale p n e left = (first : List R) → n ≡ 2 ^ (length first + length p) → value ring left first ≡ ring.product scale (value ring e (first ++ p))
