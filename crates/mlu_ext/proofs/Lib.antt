@@ -1,0 +1,6 @@
+-- The lemmas of this crate.
+pub mod Eleven
+pub mod Transposed
+pub mod QuarticSums
+pub mod QuarticLanes
+pub mod ProductLanes

@@ -4,8 +4,8 @@ use Rattle.std.specs.Prelude.{◌≡◌, ◌↔◌, IsTrue, Bool, ℕ, List}
 use Rattle.std.proofs.Common.{ap, refl}
 use Rattle.mlu_ring.specs.Ring.{Ring, RingLaws, IsRingMap}
 use Rattle.mlu_ring.specs.Lanes.{IsLists}
-use Rattle.mlu_lanes.specs.LaneRing.{values_of, same_values, splat, lane_ring, lane_laws, eq_lanes, splat_is_ring_map}
-use Rattle.mlu_lanes.specs.Fill.{packed_of, lanes_are_lists}
+use Rattle.mlu_lanes.specs.LaneRing.{values_of, same_values, splat, zipped, mapped, packed_of, lanes_are_lists, lane_ring, lane_laws, eq_lanes, splat_is_ring_map}
+use Rattle.mlu_lanes.specs.Entrywise.{EntrywisePair, EntrywiseTriple, zipped_by, mapped_by}
 use Rattle.mlu_lanes.specs.declared.lanes.Lanes.{Lanes}
 use Rattle.mlu_ext.specs.declared.product.ProductAlgebra.{ProductAlgebra}
 
@@ -35,8 +35,18 @@ module _ {A : Type 0} (D : ℕ) where
     parts-whole = (lanes_are_lists D d).parts-whole;
   }
 
+  -- where a relation of the entries is a function, that of the products is this function entry by entry
+  pub entries_zipped_by : (P : A → A → A → Type 0) (f : A → A → A) → ((x y z : A) → P x y z → z ≡ f x y) → A → (a b r : ProductAlgebra A D)
+      → EntrywiseTriple D P (entries_of a) (entries_of b) (entries_of r) → r ≡ product_of (zipped D f a.copies b.copies)
+  entries_zipped_by P f gives d a b r h = ap product_of (zipped_by D P f gives d a.copies b.copies r.copies h)
+
+  pub entries_mapped_by : (P : A → A → Type 0) (f : A → A) → ((x z : A) → P x z → z ≡ f x) → A → (a r : ProductAlgebra A D)
+      → EntrywisePair D P (entries_of a) (entries_of r) → r ≡ product_of (mapped D f a.copies)
+  entries_mapped_by P f gives d a r h = ap product_of (mapped_by D P f gives d a.copies r.copies h)
+
   -- where the test of two elements decides their equality, so does the test of two entry by entry
-  pub eq_product : (E : A → A → Bool) → ((x y : A) → IsTrue (E x y) ↔ (x ≡ y)) → (a b : ProductAlgebra A D) → IsTrue (pointwise E (entries_of a) (entries_of b)) ↔ (a ≡ b)
+  pub eq_product : (E : A → A → Bool) → ((x y : A) → IsTrue (E x y) ↔ (x ≡ y)) → (a b : ProductAlgebra A D)
+      → IsTrue (pointwise E (entries_of a) (entries_of b)) ↔ (a ≡ b)
   eq_product E decides a b =
       let both = eq_lanes D E decides a.copies b.copies in
       (λ h. ap product_of (both.0 h), λ e. both.1 (ap (λ (x : ProductAlgebra A D). x.copies) e))

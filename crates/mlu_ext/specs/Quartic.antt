@@ -50,13 +50,14 @@ quartic_ring ring = record {
 }
 
 -- P holds of each coefficient
-abbrev pub EachCoefficient : {R : Type 0} → (R → Type 0) → QuarticExtension R → Type 0
-EachCoefficient P a = P a.c0 × P a.c1 × P a.c2 × P a.c3
+abbrev pub Coefficientwise : {R : Type 0} → (R → Type 0) → QuarticExtension R → Type 0
+Coefficientwise P a = P a.c0 × P a.c1 × P a.c2 × P a.c3
 
 -- and of the coefficients of two, one by one
-abbrev pub EachCoefficientPair : {R : Type 0} → (R → R → Type 0) → QuarticExtension R → QuarticExtension R → Type 0
-EachCoefficientPair P a b = P a.c0 b.c0 × P a.c1 b.c1 × P a.c2 b.c2 × P a.c3 b.c3
+abbrev pub CoefficientwisePair : {R : Type 0} → (R → R → Type 0) → QuarticExtension R → QuarticExtension R → Type 0
+CoefficientwisePair P a b = P a.c0 b.c0 × P a.c1 b.c1 × P a.c2 b.c2 × P a.c3 b.c3
 
 -- and of those of three
-abbrev pub EachCoefficientTriple : {R : Type 0} → (R → R → R → Type 0) → QuarticExtension R → QuarticExtension R → QuarticExtension R → Type 0
-EachCoefficientTriple P a b c = P a.c0 b.c0 c.c0 × P a.c1 b.c1 c.c1 × P a.c2 b.c2 c.c2 × P a.c3 b.c3 c.c3
+abbrev pub CoefficientwiseTriple : {R : Type 0} → (R → R → R → Type 0) → QuarticExtension R → QuarticExtension R → QuarticExtension R
+    → Type 0
+CoefficientwiseTriple P a b c = P a.c0 b.c0 c.c0 × P a.c1 b.c1 c.c1 × P a.c2 b.c2 c.c2 × P a.c3 b.c3 c.c3

@@ -4,21 +4,21 @@ use Rattle.std.proofs.Common.{sym, ap, ◌∙◌, refl}
 use Rattle.std.specs.Cmp.Derive.{both_true}
 use Rattle.mlu_ring.specs.Ring.{Ring, RingLaws, IsRingMap}
 use Rattle.mlu_ring.specs.Sums.{sum_below}
-use Rattle.mlu_ring.specs.Tables.{pair}
-use Rattle.mlu_ring.proofs.Pairs.{pair-of_four}
 use Rattle.mlu_ring.proofs.Rings.{sum_zero, negation_zero, product_zero, zero_product, sum_product, sum_left_comm, product_left_comm}
 use Rattle.mlu_ext.specs.Eleven.{eleven}
-use Rattle.mlu_ext.specs.Quartic.{convolution, reduced, quartic_coefficients, quartic, constant, quartic_product, quartic_ring, EachCoefficientPair, EachCoefficientTriple}
+use Rattle.mlu_ext.specs.Quartic.{convolution, reduced, quartic_coefficients, quartic, constant, quartic_product, quartic_ring, CoefficientwisePair, CoefficientwiseTriple}
 use Rattle.mlu_ext.specs.declared.quartic.QuarticExtension.{QuarticExtension}
 
 pub quartic_same : {R : Type 0} {a b c d e f g h : R} → a ≡ e → b ≡ f → c ≡ g → d ≡ h → quartic a b c d ≡ quartic e f g h
 quartic_same p q r s = λ i. quartic (p i) (q i) (r i) (s i)
 
 -- where a relation of the coefficients is a function, that of the polynomials is this function of each
-pub coefficients_by : {R : Type 0} (P : R → R → R → Type 0) (f : R → R → R) → ((x y z : R) → P x y z → z ≡ f x y) → (a b r : QuarticExtension R) → EachCoefficientTriple P a b r → r ≡ quartic (f a.c0 b.c0) (f a.c1 b.c1) (f a.c2 b.c2) (f a.c3 b.c3)
+pub coefficients_by : {R : Type 0} (P : R → R → R → Type 0) (f : R → R → R) → ((x y z : R) → P x y z → z ≡ f x y)
+    → (a b r : QuarticExtension R) → CoefficientwiseTriple P a b r → r ≡ quartic (f a.c0 b.c0) (f a.c1 b.c1) (f a.c2 b.c2) (f a.c3 b.c3)
 coefficients_by P f gives a b r h = quartic_same (gives _ _ _ h.0) (gives _ _ _ h.1) (gives _ _ _ h.2) (gives _ _ _ h.3)
 
-pub coefficients_each_by : {R : Type 0} (P : R → R → Type 0) (f : R → R) → ((x z : R) → P x z → z ≡ f x) → (a r : QuarticExtension R) → EachCoefficientPair P a r → r ≡ quartic (f a.c0) (f a.c1) (f a.c2) (f a.c3)
+pub coefficients_each_by : {R : Type 0} (P : R → R → Type 0) (f : R → R) → ((x z : R) → P x z → z ≡ f x) → (a r : QuarticExtension R)
+    → CoefficientwisePair P a r → r ≡ quartic (f a.c0) (f a.c1) (f a.c2) (f a.c3)
 coefficients_each_by P f gives a r h = quartic_same (gives _ _ h.0) (gives _ _ h.1) (gives _ _ h.2) (gives _ _ h.3)
 
 module _ {R : Type 0} (ring : Ring R) (laws : RingLaws ring) where
@@ -28,160 +28,101 @@ module _ {R : Type 0} (ring : Ring R) (laws : RingLaws ring) where
 
   -- the coefficients of a product as four sums of four products, where X^4 is w
   module _ (w : R) where
-    abbrev written-0 : R → R → R → R → R → R → R → R → R
-    written-0 a0 a1 a2 a3 b0 b1 b2 b3 = (a0 ⊗ b0) ⊕ (a1 ⊗ (w ⊗ b3)) ⊕ ((a2 ⊗ (w ⊗ b2)) ⊕ (a3 ⊗ (w ⊗ b1)))
-
-    abbrev written-1 : R → R → R → R → R → R → R → R → R
-    written-1 a0 a1 a2 a3 b0 b1 b2 b3 = (a0 ⊗ b1) ⊕ (a1 ⊗ b0) ⊕ ((a2 ⊗ (w ⊗ b3)) ⊕ (a3 ⊗ (w ⊗ b2)))
-
-    abbrev written-2 : R → R → R → R → R → R → R → R → R
-    written-2 a0 a1 a2 a3 b0 b1 b2 b3 = (a0 ⊗ b2) ⊕ (a1 ⊗ b1) ⊕ ((a2 ⊗ b0) ⊕ (a3 ⊗ (w ⊗ b3)))
-
-    abbrev written-3 : R → R → R → R → R → R → R → R → R
-    written-3 a0 a1 a2 a3 b0 b1 b2 b3 = (a0 ⊗ b3) ⊕ (a1 ⊗ b2) ⊕ ((a2 ⊗ b1) ⊕ (a3 ⊗ b0))
-
     abbrev pub written : QuarticExtension R → QuarticExtension R → QuarticExtension R
     written a b =
         quartic
-        (written-0 a.c0 a.c1 a.c2 a.c3 b.c0 b.c1 b.c2 b.c3)
-        (written-1 a.c0 a.c1 a.c2 a.c3 b.c0 b.c1 b.c2 b.c3)
-        (written-2 a.c0 a.c1 a.c2 a.c3 b.c0 b.c1 b.c2 b.c3)
-        (written-3 a.c0 a.c1 a.c2 a.c3 b.c0 b.c1 b.c2 b.c3)
+        ((a.c0 ⊗ b.c0) ⊕ (a.c1 ⊗ (w ⊗ b.c3)) ⊕ ((a.c2 ⊗ (w ⊗ b.c2)) ⊕ (a.c3 ⊗ (w ⊗ b.c1))))
+        ((a.c0 ⊗ b.c1) ⊕ (a.c1 ⊗ b.c0) ⊕ ((a.c2 ⊗ (w ⊗ b.c3)) ⊕ (a.c3 ⊗ (w ⊗ b.c2))))
+        ((a.c0 ⊗ b.c2) ⊕ (a.c1 ⊗ b.c1) ⊕ ((a.c2 ⊗ b.c0) ⊕ (a.c3 ⊗ (w ⊗ b.c3))))
+        ((a.c0 ⊗ b.c3) ⊕ (a.c1 ⊗ b.c2) ⊕ ((a.c2 ⊗ b.c1) ⊕ (a.c3 ⊗ b.c0)))
 
-    module _ (a0 a1 a2 a3 b0 b1 b2 b3 c0 c1 c2 c3 : R) where
-      written-0_assoc : written-0 (written-0 a0 a1 a2 a3 b0 b1 b2 b3) (written-1 a0 a1 a2 a3 b0 b1 b2 b3) (written-2 a0 a1 a2 a3 b0 b1 b2 b3) (written-3 a0 a1 a2 a3 b0 b1 b2 b3) c0 c1 c2 c3 ≡ written-0 a0 a1 a2 a3 (written-0 b0 b1 b2 b3 c0 c1 c2 c3) (written-1 b0 b1 b2 b3 c0 c1 c2 c3) (written-2 b0 b1 b2 b3 c0 c1 c2 c3) (written-3 b0 b1 b2 b3 c0 c1 c2 c3)
-      written-0_assoc = simp (laws.product_sum, sum_product ring laws, laws.product_assoc, product_left_comm ring laws, laws.sum_assoc, sum_left_comm ring laws, laws.sum_comm)
+    written-assoc : (a b c : QuarticExtension R) → written (written a b) c ≡ written a (written b c)
+    written-assoc a b c =
+        quartic_same
+        (simp (laws.product_sum, sum_product ring laws, laws.product_assoc, product_left_comm ring laws, laws.sum_assoc, sum_left_comm ring laws, laws.sum_comm))
+        (simp (laws.product_sum, sum_product ring laws, laws.product_assoc, product_left_comm ring laws, laws.sum_assoc, sum_left_comm ring laws, laws.sum_comm))
+        (simp (laws.product_sum, sum_product ring laws, laws.product_assoc, product_left_comm ring laws, laws.sum_assoc, sum_left_comm ring laws, laws.sum_comm))
+        (simp (laws.product_sum, sum_product ring laws, laws.product_assoc, product_left_comm ring laws, laws.sum_assoc, sum_left_comm ring laws, laws.sum_comm))
 
-      written-1_assoc : written-1 (written-0 a0 a1 a2 a3 b0 b1 b2 b3) (written-1 a0 a1 a2 a3 b0 b1 b2 b3) (written-2 a0 a1 a2 a3 b0 b1 b2 b3) (written-3 a0 a1 a2 a3 b0 b1 b2 b3) c0 c1 c2 c3 ≡ written-1 a0 a1 a2 a3 (written-0 b0 b1 b2 b3 c0 c1 c2 c3) (written-1 b0 b1 b2 b3 c0 c1 c2 c3) (written-2 b0 b1 b2 b3 c0 c1 c2 c3) (written-3 b0 b1 b2 b3 c0 c1 c2 c3)
-      written-1_assoc = simp (laws.product_sum, sum_product ring laws, laws.product_assoc, product_left_comm ring laws, laws.sum_assoc, sum_left_comm ring laws, laws.sum_comm)
+    written-comm : (a b : QuarticExtension R) → written a b ≡ written b a
+    written-comm a b =
+        quartic_same
+        (simp (product_left_comm ring laws, laws.product_comm, laws.sum_assoc, sum_left_comm ring laws, laws.sum_comm))
+        (simp (product_left_comm ring laws, laws.product_comm, laws.sum_assoc, sum_left_comm ring laws, laws.sum_comm))
+        (simp (product_left_comm ring laws, laws.product_comm, laws.sum_assoc, sum_left_comm ring laws))
+        (simp (laws.product_comm, laws.sum_assoc, sum_left_comm ring laws, laws.sum_comm))
 
-      written-2_assoc : written-2 (written-0 a0 a1 a2 a3 b0 b1 b2 b3) (written-1 a0 a1 a2 a3 b0 b1 b2 b3) (written-2 a0 a1 a2 a3 b0 b1 b2 b3) (written-3 a0 a1 a2 a3 b0 b1 b2 b3) c0 c1 c2 c3 ≡ written-2 a0 a1 a2 a3 (written-0 b0 b1 b2 b3 c0 c1 c2 c3) (written-1 b0 b1 b2 b3 c0 c1 c2 c3) (written-2 b0 b1 b2 b3 c0 c1 c2 c3) (written-3 b0 b1 b2 b3 c0 c1 c2 c3)
-      written-2_assoc = simp (laws.product_sum, sum_product ring laws, laws.product_assoc, product_left_comm ring laws, laws.sum_assoc, sum_left_comm ring laws, laws.sum_comm)
-
-      written-3_assoc : written-3 (written-0 a0 a1 a2 a3 b0 b1 b2 b3) (written-1 a0 a1 a2 a3 b0 b1 b2 b3) (written-2 a0 a1 a2 a3 b0 b1 b2 b3) (written-3 a0 a1 a2 a3 b0 b1 b2 b3) c0 c1 c2 c3 ≡ written-3 a0 a1 a2 a3 (written-0 b0 b1 b2 b3 c0 c1 c2 c3) (written-1 b0 b1 b2 b3 c0 c1 c2 c3) (written-2 b0 b1 b2 b3 c0 c1 c2 c3) (written-3 b0 b1 b2 b3 c0 c1 c2 c3)
-      written-3_assoc = simp (laws.product_sum, sum_product ring laws, laws.product_assoc, product_left_comm ring laws, laws.sum_assoc, sum_left_comm ring laws, laws.sum_comm)
-
-    module _ (a0 a1 a2 a3 b0 b1 b2 b3 : R) where
-      written-0_comm : written-0 a0 a1 a2 a3 b0 b1 b2 b3 ≡ written-0 b0 b1 b2 b3 a0 a1 a2 a3
-      written-0_comm = simp (product_left_comm ring laws, laws.product_comm, laws.sum_assoc, sum_left_comm ring laws, laws.sum_comm)
-
-      written-1_comm : written-1 a0 a1 a2 a3 b0 b1 b2 b3 ≡ written-1 b0 b1 b2 b3 a0 a1 a2 a3
-      written-1_comm = simp (product_left_comm ring laws, laws.product_comm, laws.sum_assoc, sum_left_comm ring laws, laws.sum_comm)
-
-      written-2_comm : written-2 a0 a1 a2 a3 b0 b1 b2 b3 ≡ written-2 b0 b1 b2 b3 a0 a1 a2 a3
-      written-2_comm = simp (product_left_comm ring laws, laws.product_comm, laws.sum_assoc, sum_left_comm ring laws)
-
-      written-3_comm : written-3 a0 a1 a2 a3 b0 b1 b2 b3 ≡ written-3 b0 b1 b2 b3 a0 a1 a2 a3
-      written-3_comm = simp (laws.product_comm, laws.sum_assoc, sum_left_comm ring laws, laws.sum_comm)
-
-    module _ (a0 a1 a2 a3 b0 b1 b2 b3 c0 c1 c2 c3 : R) where
-      written-0_sum : written-0 a0 a1 a2 a3 (b0 ⊕ c0) (b1 ⊕ c1) (b2 ⊕ c2) (b3 ⊕ c3) ≡ written-0 a0 a1 a2 a3 b0 b1 b2 b3 ⊕ written-0 a0 a1 a2 a3 c0 c1 c2 c3
-      written-0_sum = simp (laws.product_sum, laws.sum_assoc, sum_left_comm ring laws)
-
-      written-1_sum : written-1 a0 a1 a2 a3 (b0 ⊕ c0) (b1 ⊕ c1) (b2 ⊕ c2) (b3 ⊕ c3) ≡ written-1 a0 a1 a2 a3 b0 b1 b2 b3 ⊕ written-1 a0 a1 a2 a3 c0 c1 c2 c3
-      written-1_sum = simp (laws.product_sum, laws.sum_assoc, sum_left_comm ring laws)
-
-      written-2_sum : written-2 a0 a1 a2 a3 (b0 ⊕ c0) (b1 ⊕ c1) (b2 ⊕ c2) (b3 ⊕ c3) ≡ written-2 a0 a1 a2 a3 b0 b1 b2 b3 ⊕ written-2 a0 a1 a2 a3 c0 c1 c2 c3
-      written-2_sum = simp (laws.product_sum, laws.sum_assoc, sum_left_comm ring laws)
-
-      written-3_sum : written-3 a0 a1 a2 a3 (b0 ⊕ c0) (b1 ⊕ c1) (b2 ⊕ c2) (b3 ⊕ c3) ≡ written-3 a0 a1 a2 a3 b0 b1 b2 b3 ⊕ written-3 a0 a1 a2 a3 c0 c1 c2 c3
-      written-3_sum = simp (laws.product_sum, laws.sum_assoc, sum_left_comm ring laws)
+    written-sum : (a b c : QuarticExtension R)
+        → written a ((quartic_ring ring).sum b c) ≡ (quartic_ring ring).sum (written a b) (written a c)
+    written-sum a b c =
+        quartic_same
+        (simp (laws.product_sum, laws.sum_assoc, sum_left_comm ring laws))
+        (simp (laws.product_sum, laws.sum_assoc, sum_left_comm ring laws))
+        (simp (laws.product_sum, laws.sum_assoc, sum_left_comm ring laws))
+        (simp (laws.product_sum, laws.sum_assoc, sum_left_comm ring laws))
 
   -- the only term that is left where the coefficients of X, X^2 and X^3 are zero
   alone : (t u v x : R) → t ⊕ (𝟘 ⊗ u) ⊕ ((𝟘 ⊗ v) ⊕ (𝟘 ⊗ x)) ≡ t
   alone t u v x = simp (zero_product ring laws, sum_zero ring laws)
 
   -- what the product modulo X^4 - 11 comes to
-  module _ (a0 a1 a2 a3 b0 b1 b2 b3 : R) where
-    reduced-0 : reduced ring (a0 ∷ a1 ∷ a2 ∷ a3 ∷ []) (b0 ∷ b1 ∷ b2 ∷ b3 ∷ []) 0 ≡ written-0 (eleven ring) a0 a1 a2 a3 b0 b1 b2 b3
+  module _ (a b : QuarticExtension R) where
+    reduced-0 : reduced ring (quartic_coefficients a) (quartic_coefficients b) 0 ≡ (written (eleven ring) a b).c0
     unfolding reduced convolution sum_below
     reduced-0 =
-        let terms : reduced ring (a0 ∷ a1 ∷ a2 ∷ a3 ∷ []) (b0 ∷ b1 ∷ b2 ∷ b3 ∷ []) 0 ≡ ((a0 ⊗ b0) ⊕ 𝟘) ⊕ (eleven ring ⊗ ((a0 ⊗ 𝟘) ⊕ ((a1 ⊗ b3) ⊕ ((a2 ⊗ b2) ⊕ ((a3 ⊗ b1) ⊕ ((𝟘 ⊗ b0) ⊕ 𝟘)))))) = refl in
+        let terms : reduced ring (quartic_coefficients a) (quartic_coefficients b) 0
+        ≡ ((a.c0 ⊗ b.c0) ⊕ 𝟘) ⊕ (eleven ring ⊗ ((a.c0 ⊗ 𝟘) ⊕ ((a.c1 ⊗ b.c3) ⊕ ((a.c2 ⊗ b.c2) ⊕ ((a.c3 ⊗ b.c1) ⊕ ((𝟘 ⊗ b.c0) ⊕ 𝟘)))))) = refl in
         terms ∙ simp (product_zero ring laws, zero_product ring laws, laws.zero_sum, sum_zero ring laws, laws.product_sum, laws.sum_assoc, product_left_comm ring laws)
 
-    reduced-1 : reduced ring (a0 ∷ a1 ∷ a2 ∷ a3 ∷ []) (b0 ∷ b1 ∷ b2 ∷ b3 ∷ []) 1 ≡ written-1 (eleven ring) a0 a1 a2 a3 b0 b1 b2 b3
+    reduced-1 : reduced ring (quartic_coefficients a) (quartic_coefficients b) 1 ≡ (written (eleven ring) a b).c1
     unfolding reduced convolution sum_below
     reduced-1 =
-        let terms : reduced ring (a0 ∷ a1 ∷ a2 ∷ a3 ∷ []) (b0 ∷ b1 ∷ b2 ∷ b3 ∷ []) 1 ≡ ((a0 ⊗ b1) ⊕ ((a1 ⊗ b0) ⊕ 𝟘)) ⊕ (eleven ring ⊗ ((a0 ⊗ 𝟘) ⊕ ((a1 ⊗ 𝟘) ⊕ ((a2 ⊗ b3) ⊕ ((a3 ⊗ b2) ⊕ ((𝟘 ⊗ b1) ⊕ ((𝟘 ⊗ b0) ⊕ 𝟘))))))) = refl in
+        let terms : reduced ring (quartic_coefficients a) (quartic_coefficients b) 1
+        ≡ ((a.c0 ⊗ b.c1) ⊕ ((a.c1 ⊗ b.c0) ⊕ 𝟘)) ⊕ (eleven ring ⊗ ((a.c0 ⊗ 𝟘) ⊕ ((a.c1 ⊗ 𝟘) ⊕ ((a.c2 ⊗ b.c3) ⊕ ((a.c3 ⊗ b.c2) ⊕ ((𝟘 ⊗ b.c1) ⊕ ((𝟘 ⊗ b.c0) ⊕ 𝟘))))))) = refl in
         terms ∙ simp (product_zero ring laws, zero_product ring laws, laws.zero_sum, sum_zero ring laws, laws.product_sum, laws.sum_assoc, product_left_comm ring laws)
 
-    reduced-2 : reduced ring (a0 ∷ a1 ∷ a2 ∷ a3 ∷ []) (b0 ∷ b1 ∷ b2 ∷ b3 ∷ []) 2 ≡ written-2 (eleven ring) a0 a1 a2 a3 b0 b1 b2 b3
+    reduced-2 : reduced ring (quartic_coefficients a) (quartic_coefficients b) 2 ≡ (written (eleven ring) a b).c2
     unfolding reduced convolution sum_below
     reduced-2 =
-        let terms : reduced ring (a0 ∷ a1 ∷ a2 ∷ a3 ∷ []) (b0 ∷ b1 ∷ b2 ∷ b3 ∷ []) 2 ≡ ((a0 ⊗ b2) ⊕ ((a1 ⊗ b1) ⊕ ((a2 ⊗ b0) ⊕ 𝟘))) ⊕ (eleven ring ⊗ ((a0 ⊗ 𝟘) ⊕ ((a1 ⊗ 𝟘) ⊕ ((a2 ⊗ 𝟘) ⊕ ((a3 ⊗ b3) ⊕ ((𝟘 ⊗ b2) ⊕ ((𝟘 ⊗ b1) ⊕ ((𝟘 ⊗ b0) ⊕ 𝟘)))))))) = refl in
+        let terms : reduced ring (quartic_coefficients a) (quartic_coefficients b) 2
+        ≡ ((a.c0 ⊗ b.c2) ⊕ ((a.c1 ⊗ b.c1) ⊕ ((a.c2 ⊗ b.c0) ⊕ 𝟘))) ⊕ (eleven ring ⊗ ((a.c0 ⊗ 𝟘) ⊕ ((a.c1 ⊗ 𝟘) ⊕ ((a.c2 ⊗ 𝟘) ⊕ ((a.c3 ⊗ b.c3) ⊕ ((𝟘 ⊗ b.c2) ⊕ ((𝟘 ⊗ b.c1) ⊕ ((𝟘 ⊗ b.c0) ⊕ 𝟘)))))))) = refl in
         terms ∙ simp (product_zero ring laws, zero_product ring laws, laws.zero_sum, sum_zero ring laws, laws.sum_assoc, product_left_comm ring laws)
 
-    reduced-3 : reduced ring (a0 ∷ a1 ∷ a2 ∷ a3 ∷ []) (b0 ∷ b1 ∷ b2 ∷ b3 ∷ []) 3 ≡ written-3 (eleven ring) a0 a1 a2 a3 b0 b1 b2 b3
+    reduced-3 : reduced ring (quartic_coefficients a) (quartic_coefficients b) 3 ≡ (written (eleven ring) a b).c3
     unfolding reduced convolution sum_below
     reduced-3 =
-        let terms : reduced ring (a0 ∷ a1 ∷ a2 ∷ a3 ∷ []) (b0 ∷ b1 ∷ b2 ∷ b3 ∷ []) 3 ≡ ((a0 ⊗ b3) ⊕ ((a1 ⊗ b2) ⊕ ((a2 ⊗ b1) ⊕ ((a3 ⊗ b0) ⊕ 𝟘)))) ⊕ (eleven ring ⊗ ((a0 ⊗ 𝟘) ⊕ ((a1 ⊗ 𝟘) ⊕ ((a2 ⊗ 𝟘) ⊕ ((a3 ⊗ 𝟘) ⊕ ((𝟘 ⊗ b3) ⊕ ((𝟘 ⊗ b2) ⊕ ((𝟘 ⊗ b1) ⊕ ((𝟘 ⊗ b0) ⊕ 𝟘))))))))) = refl in
+        let terms : reduced ring (quartic_coefficients a) (quartic_coefficients b) 3
+        ≡ ((a.c0 ⊗ b.c3) ⊕ ((a.c1 ⊗ b.c2) ⊕ ((a.c2 ⊗ b.c1) ⊕ ((a.c3 ⊗ b.c0) ⊕ 𝟘)))) ⊕ (eleven ring ⊗ ((a.c0 ⊗ 𝟘) ⊕ ((a.c1 ⊗ 𝟘) ⊕ ((a.c2 ⊗ 𝟘) ⊕ ((a.c3 ⊗ 𝟘) ⊕ ((𝟘 ⊗ b.c3) ⊕ ((𝟘 ⊗ b.c2) ⊕ ((𝟘 ⊗ b.c1) ⊕ ((𝟘 ⊗ b.c0) ⊕ 𝟘))))))))) = refl in
         terms ∙ simp (product_zero ring laws, zero_product ring laws, laws.zero_sum, sum_zero ring laws, laws.sum_assoc)
 
   pub product-written : (a b : QuarticExtension R) → quartic_product ring a b ≡ written (eleven ring) a b
-  product-written a b =
-      quartic_same
-      (reduced-0 a.c0 a.c1 a.c2 a.c3 b.c0 b.c1 b.c2 b.c3)
-      (reduced-1 a.c0 a.c1 a.c2 a.c3 b.c0 b.c1 b.c2 b.c3)
-      (reduced-2 a.c0 a.c1 a.c2 a.c3 b.c0 b.c1 b.c2 b.c3)
-      (reduced-3 a.c0 a.c1 a.c2 a.c3 b.c0 b.c1 b.c2 b.c3)
+  product-written a b = quartic_same (reduced-0 a b) (reduced-1 a b) (reduced-2 a b) (reduced-3 a b)
 
-  -- four products, added in two halves
-  pair-row : (a : QuarticExtension R) (u v w x : R) → (a.c0 ⊗ u) ⊕ (a.c1 ⊗ v) ⊕ ((a.c2 ⊗ w) ⊕ (a.c3 ⊗ x)) ≡ pair ring (quartic_coefficients a) (u ∷ v ∷ w ∷ x ∷ [])
-  pair-row a u v w x = sym (pair-of_four ring laws a.c0 a.c1 a.c2 a.c3 u v w x)
-
-  -- each coefficient of the product is a sum of four products
-  pub product-rows : (a b : QuarticExtension R) (r1 r2 r3 k0 k1 k2 k3 : R) → r1 ≡ eleven ring ⊗ b.c1 → r2 ≡ eleven ring ⊗ b.c2 → r3 ≡ eleven ring ⊗ b.c3
-      → k0 ≡ pair ring (quartic_coefficients a) (b.c0 ∷ r3 ∷ r2 ∷ r1 ∷ [])
-      → k1 ≡ pair ring (quartic_coefficients a) (b.c1 ∷ b.c0 ∷ r3 ∷ r2 ∷ [])
-      → k2 ≡ pair ring (quartic_coefficients a) (b.c2 ∷ b.c1 ∷ b.c0 ∷ r3 ∷ [])
-      → k3 ≡ pair ring (quartic_coefficients a) (b.c3 ∷ b.c2 ∷ b.c1 ∷ b.c0 ∷ [])
-      → quartic k0 k1 k2 k3 ≡ quartic_product ring a b
-  product-rows a b r1 r2 r3 k0 k1 k2 k3 e1 e2 e3 f0 f1 f2 f3 =
-      quartic_same
-      (cc (f0, e1, e2, e3, pair-row a b.c0 r3 r2 r1))
-      (cc (f1, e2, e3, pair-row a b.c1 b.c0 r3 r2))
-      (cc (f2, e3, pair-row a b.c2 b.c1 b.c0 r3))
-      (cc (f3, pair-row a b.c3 b.c2 b.c1 b.c0))
-      ∙ sym (product-written a b)
-
-  product-assoc : (a b c : QuarticExtension R) → quartic_product ring (quartic_product ring a b) c ≡ quartic_product ring a (quartic_product ring b c)
+  product-assoc : (a b c : QuarticExtension R)
+      → quartic_product ring (quartic_product ring a b) c ≡ quartic_product ring a (quartic_product ring b c)
   product-assoc a b c =
       let w = eleven ring in
       ap (λ p. quartic_product ring p c) (product-written a b)
       ∙ product-written (written w a b) c
-      ∙ quartic_same
-      (written-0_assoc w a.c0 a.c1 a.c2 a.c3 b.c0 b.c1 b.c2 b.c3 c.c0 c.c1 c.c2 c.c3)
-      (written-1_assoc w a.c0 a.c1 a.c2 a.c3 b.c0 b.c1 b.c2 b.c3 c.c0 c.c1 c.c2 c.c3)
-      (written-2_assoc w a.c0 a.c1 a.c2 a.c3 b.c0 b.c1 b.c2 b.c3 c.c0 c.c1 c.c2 c.c3)
-      (written-3_assoc w a.c0 a.c1 a.c2 a.c3 b.c0 b.c1 b.c2 b.c3 c.c0 c.c1 c.c2 c.c3)
+      ∙ written-assoc w a b c
       ∙ sym (product-written a (written w b c))
       ∙ ap (quartic_product ring a) (sym (product-written b c))
 
   pub product-comm : (a b : QuarticExtension R) → quartic_product ring a b ≡ quartic_product ring b a
-  product-comm a b =
-      let w = eleven ring in
-      product-written a b
-      ∙ quartic_same
-      (written-0_comm w a.c0 a.c1 a.c2 a.c3 b.c0 b.c1 b.c2 b.c3)
-      (written-1_comm w a.c0 a.c1 a.c2 a.c3 b.c0 b.c1 b.c2 b.c3)
-      (written-2_comm w a.c0 a.c1 a.c2 a.c3 b.c0 b.c1 b.c2 b.c3)
-      (written-3_comm w a.c0 a.c1 a.c2 a.c3 b.c0 b.c1 b.c2 b.c3)
-      ∙ sym (product-written b a)
+  product-comm a b = product-written a b ∙ written-comm (eleven ring) a b ∙ sym (product-written b a)
 
-  product-sum : (a b c : QuarticExtension R) → quartic_product ring a ((quartic_ring ring).sum b c) ≡ (quartic_ring ring).sum (quartic_product ring a b) (quartic_product ring a c)
+  product-sum : (a b c : QuarticExtension R)
+      → quartic_product ring a ((quartic_ring ring).sum b c) ≡ (quartic_ring ring).sum (quartic_product ring a b) (quartic_product ring a c)
   product-sum a b c =
-      let w = eleven ring in
-      product-written a ((quartic_ring ring).sum b c)
-      ∙ quartic_same
-      (written-0_sum w a.c0 a.c1 a.c2 a.c3 b.c0 b.c1 b.c2 b.c3 c.c0 c.c1 c.c2 c.c3)
-      (written-1_sum w a.c0 a.c1 a.c2 a.c3 b.c0 b.c1 b.c2 b.c3 c.c0 c.c1 c.c2 c.c3)
-      (written-2_sum w a.c0 a.c1 a.c2 a.c3 b.c0 b.c1 b.c2 b.c3 c.c0 c.c1 c.c2 c.c3)
-      (written-3_sum w a.c0 a.c1 a.c2 a.c3 b.c0 b.c1 b.c2 b.c3 c.c0 c.c1 c.c2 c.c3)
-      ∙ ap (λ p. (quartic_ring ring).sum p (written w a c)) (sym (product-written a b))
-      ∙ ap ((quartic_ring ring).sum (quartic_product ring a b)) (sym (product-written a c))
+      let sum = (quartic_ring ring).sum in
+      product-written a (sum b c)
+      ∙ written-sum (eleven ring) a b c
+      ∙ ap (λ p. sum p (written (eleven ring) a c)) (sym (product-written a b))
+      ∙ ap (sum (quartic_product ring a b)) (sym (product-written a c))
 
   -- the constant x times b has each coefficient of b times x
-  pub constant-product : (x : R) (b : QuarticExtension R) → quartic_product ring (constant 𝟘 x) b ≡ quartic (x ⊗ b.c0) (x ⊗ b.c1) (x ⊗ b.c2) (x ⊗ b.c3)
+  pub constant-product : (x : R) (b : QuarticExtension R)
+      → quartic_product ring (constant 𝟘 x) b ≡ quartic (x ⊗ b.c0) (x ⊗ b.c1) (x ⊗ b.c2) (x ⊗ b.c3)
   constant-product x b = product-written (constant 𝟘 x) b ∙ quartic_same (alone _ _ _ _) (alone _ _ _ _) (alone _ _ _ _) (alone _ _ _ _)
 
   pub quartic_laws : RingLaws (quartic_ring ring)
@@ -208,7 +149,8 @@ module _ {R : Type 0} (ring : Ring R) (laws : RingLaws ring) where
   pub constant_two : {z two : R} → z ≡ 𝟘 → two ≡ 𝟙 ⊕ 𝟙 → constant z two ≡ (quartic_ring ring).sum (constant 𝟘 𝟙) (constant 𝟘 𝟙)
   constant_two h k = quartic_same k h h h ∙ constant_is_ring_map.sum 𝟙 𝟙
 
-  pub constant_neg_one : {z neg_one : R} → z ≡ 𝟘 → neg_one ≡ ring.negation 𝟙 → constant z neg_one ≡ (quartic_ring ring).negation (constant 𝟘 𝟙)
+  pub constant_neg_one : {z neg_one : R} → z ≡ 𝟘 → neg_one ≡ ring.negation 𝟙
+      → constant z neg_one ≡ (quartic_ring ring).negation (constant 𝟘 𝟙)
   constant_neg_one h k =
       let e = h ∙ sym (negation_zero ring laws) in
       quartic_same k e e e
@@ -218,7 +160,8 @@ both true c h = (refl, h)
 both false c h = cc
 
 -- where the test of two elements decides their equality, so does the test of the coefficients
-pub quartic_eq : {R : Type 0} (E : R → R → Bool) → ((x y : R) → IsTrue (E x y) ↔ (x ≡ y)) → (a b : QuarticExtension R) → IsTrue (E a.c0 b.c0 && (E a.c1 b.c1 && (E a.c2 b.c2 && E a.c3 b.c3))) ↔ (a ≡ b)
+pub quartic_eq : {R : Type 0} (E : R → R → Bool) → ((x y : R) → IsTrue (E x y) ↔ (x ≡ y)) → (a b : QuarticExtension R)
+    → IsTrue (E a.c0 b.c0 && (E a.c1 b.c1 && (E a.c2 b.c2 && E a.c3 b.c3))) ↔ (a ≡ b)
 quartic_eq E decides a b = (
   λ h.
       let p = both (E a.c0 b.c0) (E a.c1 b.c1 && (E a.c2 b.c2 && E a.c3 b.c3)) h in

@@ -1,3 +1,4 @@
+//! Values that are lists of coefficients.
 ghost use Rattle.std.specs.Prelude.{◌≡◌, ◌<◌, ℕ, List, length, slice_index_or, slice_set};
 ghost use Rattle.mlu_lanes.specs.LaneRing.{values_of};
 ghost use Rattle.mlu_ext.specs.Transposed.{column_of};
@@ -11,18 +12,18 @@ pub trait Coefficients<R> {
 
     ghost list: { Self → List R };
 
-    /// Coefficient `k`.
+    /// Coefficient `k`. Asks that there is one.
     fn at(&self, k: usize) -> R
         requires { k < count }
         ensures { (d : R) → result ≡ slice_index_or (list self.now) k d };
 
-    /// Puts `c` in the place of coefficient `k`.
-    fn put(&mut self, k: usize, c: R)
+    /// Puts `c` in the place of coefficient `k`. Asks that there is one.
+    fn set_at(&mut self, k: usize, c: R)
         requires { k < count }
         ensures { list self.new ≡ slice_set (list self.old) k c };
 }
 
-/// Coefficient `c` of each element, side by side.
+/// Coefficient `c` of each element, side by side. Asks for `W` elements, and that they have one.
 #[inline]
 pub fn column<R: Additive, E: Coefficients<R>, const W: usize>(
     elements: &[E],

@@ -1,3 +1,4 @@
-pub mod Filled
-pub mod LaneSums
+-- The lemmas of this crate.
+pub mod Entrywise
+pub mod OneLane
 pub mod ResidueSums

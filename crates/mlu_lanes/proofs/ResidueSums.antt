@@ -1,19 +1,16 @@
 -- Four products of residues, reduced once and one by one.
-use Rattle.std.proofs.Common.{◌≡◌, ℕ, ◌+◌, ◌*◌, ◌%◌, [], ◌∷◌, ap, sym, ◌∙◌}
-use Rattle.std.proofs.Math.Nat.{add-mod}
+use Rattle.std.proofs.Common.{◌≡◌, ℕ, ◌+◌, ◌*◌, ◌%◌, [], ◌∷◌, sym, ◌∙◌}
 use Rattle.mlu_ring.specs.Tables.{pair}
+use Rattle.mlu_ring.proofs.Modulo.{mod-sum_of_sums}
 use Rattle.mlu_ring.proofs.Pairs.{pair-of_four}
 use Rattle.mlu_lanes.specs.BabyBear.{baby_bear_ring, baby_bear_laws, canonical, same_canonical}
 use Rattle.mlu_lanes.specs.declared.baby_bear.BabyBear.{BabyBear}
 use Rattle.mlu_lanes.specs.declared.baby_bear.TheConstants.{MODULUS}
 
-mod-sum_of_sums : (x y z w m : ℕ) → (x + y + (z + w)) % m ≡ ((x % m + y % m) % m + (z % m + w % m) % m) % m
-mod-sum_of_sums x y z w m =
-    add-mod (x + y) (z + w) m ∙ ap (λ n. (n + (z + w) % m) % m) (add-mod x y m) ∙ ap (λ n. ((x % m + y % m) % m + n) % m) (add-mod z w m)
-
 pub reduced_once : {W : ℕ} (a b c d u v w x sum : BabyBear W)
-    → canonical sum ≡ (canonical a * canonical u + canonical b * canonical v + (canonical c * canonical w + canonical d * canonical x)) % MODULUS
+    → canonical sum
+    ≡ (canonical a * canonical u + canonical b * canonical v + (canonical c * canonical w + canonical d * canonical x)) % MODULUS
     → sum ≡ pair (baby_bear_ring W) (a ∷ b ∷ c ∷ d ∷ []) (u ∷ v ∷ w ∷ x ∷ [])
 reduced_once {W} a b c d u v w x sum is =
-    let products = mod-sum_of_sums (canonical a * canonical u) (canonical b * canonical v) (canonical c * canonical w) (canonical d * canonical x) MODULUS in
+    let products = mod-sum_of_sums MODULUS (canonical a * canonical u) (canonical b * canonical v) (canonical c * canonical w) (canonical d * canonical x) in
     same_canonical sum _ (is ∙ products) ∙ sym (pair-of_four (baby_bear_ring W) (baby_bear_laws W) a b c d u v w x)

@@ -1,8 +1,7 @@
 -- The integers modulo 2013265921, as values of `BabyBear`.
-use Rattle.std.specs.Prelude.{◌≡◌, ◌↔◌, IsTrue, eqb, ℕ, ◌%◌, ◌<◌}
-use Rattle.std.proofs.Common.{ap, refl, lit<, eq-eqb}
-use Rattle.std.proofs.Math.Nat.{mod-lt, mod-eq_of_lt}
-use Rattle.std.proofs.lemmas.Bool.{eqb-true}
+use Rattle.std.specs.Prelude.{◌≡◌, ℕ, ◌%◌, ◌<◌}
+use Rattle.std.proofs.Common.{refl, lit<}
+use Rattle.std.proofs.Math.Nat.{mod-lt}
 use Rattle.std.specs.Coded.{le_prop}
 use mathlib.Core.HLevel.{is_prop→PathP}
 use Rattle.mlu_ring.specs.Ring.{Ring, RingLaws}
@@ -28,17 +27,13 @@ module _ {W : ℕ} where
   pub canonical_are_residues : IsResidues MODULUS canonical reduced
   canonical_are_residues = record {
     value-residue = λ n. refl;
-    residue-value = λ a. same_canonical _ _ (mod-eq_of_lt a.below);
+    same_value = same_canonical;
     value_below = canonical_below;
   }
-
-  -- equal by `==` exactly where equal as values
-  pub eq_canonical : (a b : BabyBear W) → IsTrue (eqb a.value b.value) ↔ (a ≡ b)
-  eq_canonical a b = (λ h. same_canonical a b (eqb-true a.value b.value h), λ e. eq-eqb a.value b.value (ap canonical e))
 
 -- sums and products of integers, modulo 2013265921
 abbrev pub baby_bear_ring : (W : ℕ) → Ring (BabyBear W)
 baby_bear_ring W = residue_ring MODULUS canonical reduced
 
 pub baby_bear_laws : (W : ℕ) → RingLaws (baby_bear_ring W)
-baby_bear_laws W = residue_laws MODULUS canonical reduced canonical_are_residues
+baby_bear_laws W = residue_laws canonical_are_residues

@@ -1,4 +1,4 @@
--- The ring of W lanes: each operation goes lane by lane.
+-- W lanes as a list, and their ring: each operation goes lane by lane.
 use lib.Pointwise.{pointwise, pointwise_decides}
 use Rattle.std.specs.Prelude.{◌≡◌, ◌↔◌, IsTrue, Bool, ℕ, List, length, map, replicate}
 use Rattle.std.proofs.Common.{ap, sym, ◌∙◌, refl}
@@ -8,8 +8,9 @@ use Rattle.std.proofs.Math.Nat.{ℕ_set}
 use Rattle.std.specs.Simd.Lanes.{zip2}
 use mathlib.Core.HLevel.{is_prop→PathP}
 use Rattle.mlu_ring.specs.Ring.{Ring, RingLaws, IsRingMap}
-use Rattle.mlu_ring.specs.Lanes.{IsLaneByLane}
-use Rattle.mlu_lanes.specs.Zips.{zip-comm, zip-assoc, zip-unit, zip-inverse, zip-map_second, zip-distrib, zip-replicate, map-replicate}
+use Rattle.mlu_ring.specs.Lanes.{IsLists, IsLaneByLane}
+use Rattle.mlu_ring.proofs.EntrywiseLaws.{zip-comm, zip-assoc, zip-unit, zip-inverse, zip-map_second, zip-distrib, zip-replicate, map-replicate}
+use Rattle.mlu_ring.proofs.Resized.{resized, length-resized, resized-whole}
 use Rattle.mlu_lanes.specs.declared.lanes.Lanes.{Lanes}
 
 -- the lanes in order
@@ -34,10 +35,23 @@ module _ {A : Type 0} (W : ℕ) where
   splat x = lanes_of (replicate W x) (length-replicate W x)
 
   -- where the test of two elements decides their equality, so does the test of two lane by lane
-  pub eq_lanes : (E : A → A → Bool) → ((x y : A) → IsTrue (E x y) ↔ (x ≡ y)) → (a b : Lanes A W) → IsTrue (pointwise E a.values b.values) ↔ (a ≡ b)
+  pub eq_lanes : (E : A → A → Bool) → ((x y : A) → IsTrue (E x y) ↔ (x ≡ y)) → (a b : Lanes A W)
+      → IsTrue (pointwise E a.values b.values) ↔ (a ≡ b)
   eq_lanes E decides a b =
       let both = pointwise_decides decides a.values b.values in
       (λ h. same_values a b (both.0 h), λ e. both.1 (ap values_of e))
+
+module _ {A : Type 0} (W : ℕ) (d : A) where
+  -- the lanes are those of the list; where it is too short, d stands in the others
+  abbrev pub packed_of : List A → Lanes A W
+  packed_of xs = lanes_of W (resized d W xs) (length-resized d W xs)
+
+  pub lanes_are_lists : IsLists W values_of packed_of
+  lanes_are_lists = record {
+    length-parts = λ p. p.full;
+    whole-parts = λ p. same_values W _ _ (resized-whole d W p.values p.full);
+    parts-whole = resized-whole d W;
+  }
 
 -- the operations of a ring, lane by lane
 abbrev pub lane_ring : {A : Type 0} (W : ℕ) → Ring A → Ring (Lanes A W)

@@ -1,8 +1,6 @@
-pub mod Zips
+-- The definitions of this crate, and the laws that its impls cite.
 pub mod LaneRing
-pub mod ByPlaces
-pub mod Fill
-pub mod Itself
+pub mod Entrywise
 pub mod Residues
 pub mod BabyBear
 pub mod WrappingU64

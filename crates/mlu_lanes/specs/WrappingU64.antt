@@ -1,8 +1,7 @@
 -- The integers modulo 2^64, as values of `WrappingU64`.
-use Rattle.std.specs.Prelude.{◌≡◌, ◌↔◌, IsTrue, eqb, ℕ, ◌%◌, ◌^◌, ◌<◌}
-use Rattle.std.proofs.Common.{ap, refl, lit<, eq-eqb}
-use Rattle.std.proofs.Math.Nat.{mod-lt, mod-eq_of_lt}
-use Rattle.std.proofs.lemmas.Bool.{eqb-true}
+use Rattle.std.specs.Prelude.{◌≡◌, ℕ, ◌%◌, ◌^◌, ◌<◌}
+use Rattle.std.proofs.Common.{refl, lit<}
+use Rattle.std.proofs.Math.Nat.{mod-lt}
 use Rattle.std.specs.Coded.{le_prop}
 use mathlib.Core.HLevel.{is_prop→PathP}
 use Rattle.mlu_ring.specs.Ring.{Ring, RingLaws}
@@ -14,9 +13,6 @@ module _ {W : ℕ} where
   abbrev pub number : WrappingU64 W → ℕ
   number a = a.value
 
-  pub number_below : (a : WrappingU64 W) → number a < 2 ^ 64
-  number_below a = a.below
-
   pub same_number : (a b : WrappingU64 W) → number a ≡ number b → a ≡ b
   same_number a b e = λ i. record { value = e i; below = is_prop→PathP (λ j. e j < 2 ^ 64) (λ j. le_prop) a.below b.below i }
 
@@ -27,17 +23,13 @@ module _ {W : ℕ} where
   pub numbers_are_residues : IsResidues (2 ^ 64) number wrapped
   numbers_are_residues = record {
     value-residue = λ n. refl;
-    residue-value = λ a. same_number _ _ (mod-eq_of_lt a.below);
-    value_below = number_below;
+    same_value = same_number;
+    value_below = λ a. a.below;
   }
-
-  -- equal by `==` exactly where equal as values
-  pub eq_number : (a b : WrappingU64 W) → IsTrue (eqb a.value b.value) ↔ (a ≡ b)
-  eq_number a b = (λ h. same_number a b (eqb-true a.value b.value h), λ e. eq-eqb a.value b.value (ap number e))
 
 -- sums and products of integers, modulo 2^64
 abbrev pub wrapping_ring : (W : ℕ) → Ring (WrappingU64 W)
 wrapping_ring W = residue_ring (2 ^ 64) number wrapped
 
 pub wrapping_laws : (W : ℕ) → RingLaws (wrapping_ring W)
-wrapping_laws W = residue_laws (2 ^ 64) number wrapped numbers_are_residues
+wrapping_laws W = residue_laws numbers_are_residues

@@ -1,3 +1,4 @@
+//! The integers modulo 2013265921.
 ghost use Rattle.std.specs.Prelude.{◌≡◌, ⊤, ◌<◌, ◌%◌};
 ghost use Rattle.mlu_lanes.specs.declared.baby_bear.TheConstants.{MODULUS};
 
@@ -13,7 +14,8 @@ pub const MODULUS: u32 = 2013265921;
 
 /// An integer modulo 2013265921, as its least residue.
 ///
-/// `W` is the width of its packed form.
+/// Where `W` is 1, 2, 4, 8 or 16 it is a field of the library, of 4 bytes an element, packed as
+/// `Lanes<Self, W>`, and an extension of itself with one coefficient.
 #[derive(Debug, PartialEq, Eq)]
 pub struct BabyBear<const W: usize> {
     value: u32,

@@ -1,3 +1,4 @@
+//! Values side by side.
 ghost use Rattle.std.specs.Prelude.{◌≡◌, ⊤, length};
 
 use std::alloc::AllocError;
@@ -8,7 +9,8 @@ mod ring;
 
 pub use packed::LaneWidth;
 
-/// `W` values side by side. Its operators work lane by lane.
+/// `W` values side by side. Its operators work lane by lane, at every `W`; it is a packed value at
+/// the widths of [`LaneWidth`].
 #[derive(Debug, PartialEq, Eq)]
 pub struct Lanes<F, const W: usize> {
     values: [F; W],

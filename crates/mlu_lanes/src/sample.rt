@@ -1,3 +1,4 @@
+//! Random elements.
 use crate::baby_bear::{BabyBear, MODULUS};
 use crate::lanes::Lanes;
 use crate::wrapping::WrappingU64;

@@ -1,3 +1,4 @@
+//! The integers modulo 2^64.
 ghost use Rattle.std.specs.Prelude.{◌≡◌, ⊤, ◌<◌, ◌^◌};
 
 use std::alloc::AllocError;
@@ -9,7 +10,8 @@ mod ring;
 
 /// An integer modulo 2^64.
 ///
-/// `W` is the width of its packed form.
+/// Where `W` is 1, 2, 4, 8 or 16 it is a field of the library, of 8 bytes an element, packed as
+/// `Lanes<Self, W>`, and an extension of itself with one coefficient.
 #[derive(Debug, PartialEq, Eq)]
 pub struct WrappingU64<const W: usize> {
     value: u64,

@@ -1,6 +1,7 @@
+//! Products over their ring, over themselves, and packed over products.
 ghost use Rattle.std.specs.Prelude.{refl};
+ghost use Rattle.mlu_ring.proofs.TrivialExtension.{identity_is_ring_map};
 ghost use Rattle.mlu_lanes.specs.LaneRing.{lane_ring, splat, splat_is_ring_map};
-ghost use Rattle.mlu_lanes.specs.Itself.{identity_is_ring_map};
 ghost use Rattle.mlu_ext.specs.Product.{entries_of, diagonal, diagonal_is_ring_map};
 ghost use Rattle.mlu_ext.specs.ProductMaps.{product_map, product_map_is_ring_map};
 
@@ -24,7 +25,7 @@ impl<R: Copy, const D: usize> Coefficients<R> for ProductAlgebra<R, D> {
     }
 
     #[inline]
-    fn put(&mut self, k: usize, c: R) {
+    fn set_at(&mut self, k: usize, c: R) {
         let mut entries = self.to_array();
         entries[k] = c;
         *self = ProductAlgebra::from_array(entries);
@@ -38,16 +39,6 @@ impl<R: PrimeCharacteristicRing, const D: usize> Algebra<ProductAlgebra<R, D>>
     #[inline]
     fn from_base(b: Self) -> Self {
         b
-    }
-
-    #[inline]
-    fn scale(self, b: Self) -> Self {
-        self * b
-    }
-
-    #[inline]
-    fn plus(self, b: Self) -> Self {
-        self + b
     }
 
     ghost keeps = { identity_is_ring_map Self.ring };
@@ -80,7 +71,7 @@ impl<F: PrimeCharacteristicRing, const W: usize, const D: usize> Algebra<Product
     fn from_base(b: ProductAlgebra<F, D>) -> Self {
         let mut packed = Self::ZERO;
         for c in 0..D {
-            packed.put(c, Lanes::from_base(b.at(c)));
+            packed.set_at(c, Lanes::from_base(b.at(c)));
         }
         packed
     }
@@ -88,6 +79,7 @@ impl<F: PrimeCharacteristicRing, const W: usize, const D: usize> Algebra<Product
     ghost keeps = { product_map_is_ring_map D F.ring (lane_ring W F.ring) (splat W) (splat_is_ring_map W F.ring) };
 }
 
+/// An element of `R` stands for `D` copies of it.
 impl<R: Additive, const D: usize> MapFrom<R> for ProductAlgebra<R, D> {
     ghost image = { diagonal D };
 

@@ -1,3 +1,4 @@
+//! Products over the prime field as an extension of it.
 ghost use Rattle.std.specs.Prelude.{◌*◌, ◌-◌, ◌^◌, min, refl};
 ghost use Rattle.mlu_lanes.specs.LaneRing.{lane_by_lane};
 ghost use Rattle.mlu_lanes.specs.BabyBear.{baby_bear_ring};
@@ -50,7 +51,7 @@ where
 
     #[inline]
     fn set_coefficient(&mut self, k: usize, c: BabyBear<W>) {
-        self.put(k, c);
+        self.set_at(k, c);
     }
 
     ghost coefficients_are = { entries_are_lists D (baby_bear_ring W).zero };

@@ -1,3 +1,4 @@
+//! The packed form of a product over the prime field.
 ghost use Rattle.mlu_lanes.specs.LaneRing.{lane_ring};
 ghost use Rattle.mlu_lanes.specs.BabyBear.{baby_bear_ring, baby_bear_laws};
 ghost use Rattle.mlu_ext.specs.Product.{entries_of, product_from, entries_are_lists};
@@ -57,7 +58,7 @@ where
 
     #[inline]
     fn set_packed_coefficient(&mut self, k: usize, c: Lanes<BabyBear<W>, W>) {
-        self.put(k, c);
+        self.set_at(k, c);
     }
 
     ghost lanes_are = { product_elements_are_lists W D (baby_bear_ring W).zero };

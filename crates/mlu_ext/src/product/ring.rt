@@ -1,8 +1,9 @@
+//! The ring of a product: each operation goes entry by entry.
 ghost use Rattle.std.specs.Prelude.{slice_index_or};
 ghost use Rattle.std.proofs.Common.{ap};
 ghost use Rattle.mlu_lanes.specs.LaneRing.{splat_two, splat_neg_one};
-ghost use Rattle.mlu_lanes.specs.ByPlaces.{EachBelow, EachPairBelow, EachTripleBelow, zipped_by, mapped_by};
-ghost use Rattle.mlu_ext.specs.Product.{entries_of, product_of, diagonal, product_ring, product_laws, eq_product};
+ghost use Rattle.mlu_lanes.specs.Entrywise.{Entrywise, EntrywisePair, EntrywiseTriple};
+ghost use Rattle.mlu_ext.specs.Product.{entries_of, product_of, diagonal, product_ring, product_laws, eq_product, entries_zipped_by, entries_mapped_by};
 
 use super::ProductAlgebra;
 use mlu_lanes::Lanes;
@@ -12,9 +13,9 @@ use std::ops::{Add, Mul, Neg, Sub};
 impl<R: Add<Output = R> + Copy, const D: usize> Add for ProductAlgebra<R, D> {
     type Output = Self;
 
-    ghost can_add = { λ a b. EachPairBelow D R.can_add (entries_of a) (entries_of b) };
+    ghost can_add = { λ a b. EntrywisePair D R.can_add (entries_of a) (entries_of b) };
 
-    ghost add_gives = { λ a b r. EachTripleBelow D R.add_gives (entries_of a) (entries_of b) (entries_of r) };
+    ghost add_gives = { λ a b r. EntrywiseTriple D R.add_gives (entries_of a) (entries_of b) (entries_of r) };
 
     #[inline]
     fn add(self, rhs: Self) -> Self {
@@ -27,9 +28,9 @@ impl<R: Add<Output = R> + Copy, const D: usize> Add for ProductAlgebra<R, D> {
 impl<R: Sub<Output = R> + Copy, const D: usize> Sub for ProductAlgebra<R, D> {
     type Output = Self;
 
-    ghost can_sub = { λ a b. EachPairBelow D R.can_sub (entries_of a) (entries_of b) };
+    ghost can_sub = { λ a b. EntrywisePair D R.can_sub (entries_of a) (entries_of b) };
 
-    ghost sub_gives = { λ a b r. EachTripleBelow D R.sub_gives (entries_of a) (entries_of b) (entries_of r) };
+    ghost sub_gives = { λ a b r. EntrywiseTriple D R.sub_gives (entries_of a) (entries_of b) (entries_of r) };
 
     #[inline]
     fn sub(self, rhs: Self) -> Self {
@@ -42,9 +43,9 @@ impl<R: Sub<Output = R> + Copy, const D: usize> Sub for ProductAlgebra<R, D> {
 impl<R: Neg<Output = R> + Copy, const D: usize> Neg for ProductAlgebra<R, D> {
     type Output = Self;
 
-    ghost can_neg = { λ a. EachBelow D R.can_neg (entries_of a) };
+    ghost can_neg = { λ a. Entrywise D R.can_neg (entries_of a) };
 
-    ghost neg_gives = { λ a r. EachPairBelow D R.neg_gives (entries_of a) (entries_of r) };
+    ghost neg_gives = { λ a r. EntrywisePair D R.neg_gives (entries_of a) (entries_of r) };
 
     #[inline]
     fn neg(self) -> Self {
@@ -57,9 +58,9 @@ impl<R: Neg<Output = R> + Copy, const D: usize> Neg for ProductAlgebra<R, D> {
 impl<R: Mul<Output = R> + Copy, const D: usize> Mul for ProductAlgebra<R, D> {
     type Output = Self;
 
-    ghost can_mul = { λ a b. EachPairBelow D R.can_mul (entries_of a) (entries_of b) };
+    ghost can_mul = { λ a b. EntrywisePair D R.can_mul (entries_of a) (entries_of b) };
 
-    ghost mul_gives = { λ a b r. EachTripleBelow D R.mul_gives (entries_of a) (entries_of b) (entries_of r) };
+    ghost mul_gives = { λ a b r. EntrywiseTriple D R.mul_gives (entries_of a) (entries_of b) (entries_of r) };
 
     #[inline]
     fn mul(self, rhs: Self) -> Self {
@@ -92,15 +93,15 @@ impl<R: Additive, const D: usize> Additive for ProductAlgebra<R, D> {
 
     ghost can_add_law = { λ a b k h d. R.can_add_law (slice_index_or (entries_of a) k d) (slice_index_or (entries_of b) k d) };
 
-    ghost adds = { λ a b r h. ap (product_of D) (zipped_by D R.add_gives R.ring.sum R.adds R.ring.zero a.copies b.copies r.copies h) };
+    ghost adds = { entries_zipped_by D R.add_gives R.ring.sum R.adds R.ring.zero };
 
     ghost can_sub_law = { λ a b k h d. R.can_sub_law (slice_index_or (entries_of a) k d) (slice_index_or (entries_of b) k d) };
 
-    ghost subtracts = { λ a b r h. ap (product_of D) (zipped_by D R.sub_gives R.ring.minus R.subtracts R.ring.zero a.copies b.copies r.copies h) };
+    ghost subtracts = { entries_zipped_by D R.sub_gives R.ring.minus R.subtracts R.ring.zero };
 
     ghost can_neg_law = { λ a k h d. R.can_neg_law (slice_index_or (entries_of a) k d) };
 
-    ghost negates = { λ a r h. ap (product_of D) (mapped_by D R.neg_gives R.ring.negation R.negates R.ring.zero a.copies r.copies h) };
+    ghost negates = { entries_mapped_by D R.neg_gives R.ring.negation R.negates R.ring.zero };
 }
 
 impl<R: PrimeCharacteristicRing, const D: usize> PrimeCharacteristicRing for ProductAlgebra<R, D> {
@@ -116,7 +117,7 @@ impl<R: PrimeCharacteristicRing, const D: usize> PrimeCharacteristicRing for Pro
 
     ghost can_mul_law = { λ a b k h d. R.can_mul_law (slice_index_or (entries_of a) k d) (slice_index_or (entries_of b) k d) };
 
-    ghost multiplies = { λ a b r h. ap (product_of D) (zipped_by D R.mul_gives R.ring.product R.multiplies R.ring.zero a.copies b.copies r.copies h) };
+    ghost multiplies = { entries_zipped_by D R.mul_gives R.ring.product R.multiplies R.ring.zero };
 
     ghost two_is = { ap (product_of D) (splat_two D R.ring R.TWO R.two_is) };
 

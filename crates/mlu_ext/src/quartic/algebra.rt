@@ -1,9 +1,10 @@
+//! Polynomials over their ring, over themselves, and packed over polynomials.
 ghost use Rattle.std.specs.Prelude.{◌≡◌, refl};
-ghost use Rattle.mlu_lanes.specs.LaneRing.{lane_ring, lane_laws, splat, splat_is_ring_map};
-ghost use Rattle.mlu_lanes.specs.Itself.{identity_is_ring_map};
+ghost use Rattle.mlu_ring.proofs.TrivialExtension.{identity_is_ring_map};
+ghost use Rattle.mlu_lanes.specs.LaneRing.{splat};
 ghost use Rattle.mlu_ext.specs.Quartic.{constant, quartic, quartic_coefficients, quartic_map};
 ghost use Rattle.mlu_ext.specs.QuarticLaws.{constant_is_ring_map};
-ghost use Rattle.mlu_ext.specs.QuarticMaps.{quartic_map_is_ring_map};
+ghost use Rattle.mlu_ext.specs.QuarticMaps.{quartic_splat_is_ring_map};
 
 use super::QuarticExtension;
 use crate::coefficients::Coefficients;
@@ -39,7 +40,7 @@ impl<R: Copy> Coefficients<R> for QuarticExtension<R> {
     }
 
     #[inline]
-    fn put(&mut self, k: usize, c: R) {
+    fn set_at(&mut self, k: usize, c: R) {
         match k {
             0 => self.c0 = c,
             1 => self.c1 = c,
@@ -55,16 +56,6 @@ impl<R: PrimeCharacteristicRing> Algebra<QuarticExtension<R>> for QuarticExtensi
     #[inline]
     fn from_base(b: Self) -> Self {
         b
-    }
-
-    #[inline]
-    fn scale(self, b: Self) -> Self {
-        self * b
-    }
-
-    #[inline]
-    fn plus(self, b: Self) -> Self {
-        self + b
     }
 
     ghost keeps = { identity_is_ring_map Self.ring };
@@ -112,9 +103,10 @@ impl<F: PrimeCharacteristicRing, const W: usize> Algebra<QuarticExtension<F>>
         }
     }
 
-    ghost keeps = { quartic_map_is_ring_map F.ring (lane_ring W F.ring) (splat W) F.Additive.laws (lane_laws W F.ring F.Additive.laws) (splat_is_ring_map W F.ring) };
+    ghost keeps = { quartic_splat_is_ring_map W F.ring F.Additive.laws };
 }
 
+/// An element of `R` stands for the constant polynomial.
 impl<R: Additive> MapFrom<R> for QuarticExtension<R> {
     ghost image = { constant R.ring.zero };
 

@@ -1,3 +1,4 @@
+//! Polynomials over the prime field as an extension of it.
 ghost use Rattle.std.specs.Prelude.{refl};
 ghost use Rattle.mlu_lanes.specs.LaneRing.{lane_by_lane};
 ghost use Rattle.mlu_lanes.specs.BabyBear.{baby_bear_ring, baby_bear_laws};
@@ -50,7 +51,7 @@ where
 
     #[inline]
     fn set_coefficient(&mut self, k: usize, c: BabyBear<W>) {
-        self.put(k, c);
+        self.set_at(k, c);
     }
 
     ghost coefficients_are = { quartic_are_lists (baby_bear_ring W).zero };

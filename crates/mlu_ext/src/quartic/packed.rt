@@ -1,7 +1,8 @@
+//! The packed form of a polynomial over the prime field.
 ghost use Rattle.mlu_lanes.specs.LaneRing.{lane_ring};
 ghost use Rattle.mlu_lanes.specs.BabyBear.{baby_bear_ring, baby_bear_laws};
 ghost use Rattle.mlu_ext.specs.Quartic.{quartic_coefficients, quartic_of};
-ghost use Rattle.mlu_ext.specs.QuarticPacked.{quartic_elements, quartic_of_elements, elements_are_lists, elements_by_lane, elements-splat, elements-constant, elements_transposed};
+ghost use Rattle.mlu_ext.specs.QuarticPacked.{quartic_elements, quartic_of_elements, quartic_elements_are_lists, quartic_elements_by_lane, quartic_elements-splat, quartic_elements-constant, quartic_transposed};
 ghost use Rattle.mlu_ext.specs.QuarticMaps.{quartic_are_lists};
 
 use super::QuarticExtension;
@@ -56,18 +57,18 @@ where
 
     #[inline]
     fn set_packed_coefficient(&mut self, k: usize, c: Lanes<BabyBear<W>, W>) {
-        self.put(k, c);
+        self.set_at(k, c);
     }
 
-    ghost lanes_are = { elements_are_lists W (baby_bear_ring W).zero };
+    ghost lanes_are = { quartic_elements_are_lists W (baby_bear_ring W).zero };
 
     ghost coefficients_are = { quartic_are_lists (lane_ring W (baby_bear_ring W)).zero };
 
-    ghost lane_by_lane = { elements_by_lane W (baby_bear_ring W) (baby_bear_laws W) };
+    ghost lane_by_lane = { quartic_elements_by_lane W (baby_bear_ring W) (baby_bear_laws W) };
 
-    ghost embeds_element = { elements-splat W (baby_bear_ring W).zero };
+    ghost embeds_element = { quartic_elements-splat W (baby_bear_ring W).zero };
 
-    ghost embeds_packing = { elements-constant W (baby_bear_ring W).zero };
+    ghost embeds_packing = { quartic_elements-constant W (baby_bear_ring W).zero };
 
-    ghost transposed = { λ p k c h i. elements_transposed W (baby_bear_ring W).zero p k c h i };
+    ghost transposed = { λ p k c h i. quartic_transposed W (baby_bear_ring W).zero p k c h i };
 }

@@ -1,6 +1,7 @@
+//! The ring of the polynomials: sums by coefficients, products modulo X^4 - 11.
 ghost use Rattle.std.specs.Prelude.{◌≡◌};
 ghost use Rattle.mlu_ext.specs.Eleven.{eleven};
-ghost use Rattle.mlu_ext.specs.Quartic.{constant, quartic_ring, EachCoefficient, EachCoefficientPair, EachCoefficientTriple};
+ghost use Rattle.mlu_ext.specs.Quartic.{constant, quartic_ring, Coefficientwise, CoefficientwisePair, CoefficientwiseTriple};
 ghost use Rattle.mlu_ext.specs.QuarticLaws.{quartic_laws, quartic_same, quartic_eq, constant_two, constant_neg_one, coefficients_by, coefficients_each_by};
 
 use super::QuarticExtension;
@@ -10,9 +11,9 @@ use std::ops::{Add, Mul, Neg, Sub};
 impl<R: Add<Output = R>> Add for QuarticExtension<R> {
     type Output = Self;
 
-    ghost can_add = { EachCoefficientPair R.can_add };
+    ghost can_add = { CoefficientwisePair R.can_add };
 
-    ghost add_gives = { EachCoefficientTriple R.add_gives };
+    ghost add_gives = { CoefficientwiseTriple R.add_gives };
 
     #[inline]
     fn add(self, rhs: Self) -> Self {
@@ -28,9 +29,9 @@ impl<R: Add<Output = R>> Add for QuarticExtension<R> {
 impl<R: Sub<Output = R>> Sub for QuarticExtension<R> {
     type Output = Self;
 
-    ghost can_sub = { EachCoefficientPair R.can_sub };
+    ghost can_sub = { CoefficientwisePair R.can_sub };
 
-    ghost sub_gives = { EachCoefficientTriple R.sub_gives };
+    ghost sub_gives = { CoefficientwiseTriple R.sub_gives };
 
     #[inline]
     fn sub(self, rhs: Self) -> Self {
@@ -46,9 +47,9 @@ impl<R: Sub<Output = R>> Sub for QuarticExtension<R> {
 impl<R: Neg<Output = R>> Neg for QuarticExtension<R> {
     type Output = Self;
 
-    ghost can_neg = { EachCoefficient R.can_neg };
+    ghost can_neg = { Coefficientwise R.can_neg };
 
-    ghost neg_gives = { EachCoefficientPair R.neg_gives };
+    ghost neg_gives = { CoefficientwisePair R.neg_gives };
 
     #[inline]
     fn neg(self) -> Self {

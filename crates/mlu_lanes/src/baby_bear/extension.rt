@@ -1,7 +1,9 @@
-ghost use Rattle.std.specs.Prelude.{◌≡◌, ◌∷◌, [], refl};
-ghost use Rattle.mlu_lanes.specs.LaneRing.{values_of, splat, lane_by_lane};
-ghost use Rattle.mlu_lanes.specs.Fill.{packed_of, lanes_are_lists};
-ghost use Rattle.mlu_lanes.specs.Itself.{identity_is_ring_map, only_of, one_coefficient, map_itself, only_transposed};
+//! The prime field over itself: the identity as embedding, one coefficient, and the lanes as packed form.
+ghost use Rattle.std.specs.Prelude.{◌≡◌, ◌∷◌, [], refl, slice_index_or};
+ghost use Rattle.std.proofs.Common.{sym};
+ghost use Rattle.std.proofs.lemmas.List.{map-id};
+ghost use Rattle.mlu_ring.proofs.TrivialExtension.{identity_is_ring_map, one_coefficient, only_transposed};
+ghost use Rattle.mlu_lanes.specs.LaneRing.{values_of, splat, packed_of, lanes_are_lists, lane_by_lane};
 ghost use Rattle.mlu_lanes.specs.BabyBear.{baby_bear_ring};
 
 use super::BabyBear;
@@ -16,16 +18,6 @@ impl<const W: usize> Algebra<BabyBear<W>> for BabyBear<W> {
     #[inline]
     fn from_base(b: Self) -> Self {
         b
-    }
-
-    #[inline]
-    fn scale(self, b: Self) -> Self {
-        self * b
-    }
-
-    #[inline]
-    fn plus(self, b: Self) -> Self {
-        self + b
     }
 
     ghost keeps = { identity_is_ring_map (baby_bear_ring W) };
@@ -60,7 +52,7 @@ where
 
     ghost coefficients = { λ a. a ∷ [] };
 
-    ghost of_coefficients = { only_of (baby_bear_ring W).zero };
+    ghost of_coefficients = { λ cs. slice_index_or cs 0 (baby_bear_ring W).zero };
 
     #[inline]
     fn coefficient(&self, _k: usize) -> BabyBear<W> {
@@ -89,7 +81,7 @@ where
 
     ghost packed_coefficients = { λ p. p ∷ [] };
 
-    ghost of_packed_coefficients = { only_of (splat W (baby_bear_ring W).zero) };
+    ghost of_packed_coefficients = { λ cs. slice_index_or cs 0 (splat W (baby_bear_ring W).zero) };
 
     #[inline]
     fn from_ext_slice(values: &[BabyBear<W>]) -> Self {
@@ -124,7 +116,7 @@ where
 
     ghost embeds_element = { λ x. refl };
 
-    ghost embeds_packing = { λ p. map_itself (values_of p) };
+    ghost embeds_packing = { λ p. sym (map-id (values_of p)) };
 
-    ghost transposed = { λ p k c h i. only_transposed (baby_bear_ring W).zero (splat W (baby_bear_ring W).zero) values_of p k c i };
+    ghost transposed = { λ p k c h i. only_transposed _ _ values_of p k c i };
 }

@@ -1,3 +1,4 @@
+//! The packed form of the prime field.
 ghost use Rattle.std.specs.Prelude.{◌≡◌};
 ghost use Rattle.mlu_lanes.specs.LaneRing.{lane_by_lane};
 ghost use Rattle.mlu_lanes.specs.BabyBear.{baby_bear_ring};

@@ -1,3 +1,4 @@
+//! Residues of words, with no division.
 ghost use Rattle.std.specs.Prelude.{◌≡◌, ◌*◌, ◌<◌, ◌^◌, ◌%◌};
 
 use super::MODULUS;
@@ -5,8 +6,9 @@ use super::MODULUS;
 /// 2^62 over the modulus, rounded down.
 const RECIPROCAL: u64 = 2290649223;
 
-/// The residue of `x`, which is below twice the modulus: where `x` is below the modulus, the
-/// difference wraps round and is the greater one.
+/// The residue of `x`. Asks that `x` is below twice the modulus.
+///
+/// Where `x` is below the modulus, the difference wraps round and is the greater one.
 #[inline(always)]
 pub fn reduce_once(x: u32) -> u32
     requires { x < 2 * MODULUS }
@@ -15,7 +17,8 @@ pub fn reduce_once(x: u32) -> u32
     x.min(x.wrapping_sub(MODULUS))
 }
 
-/// The residue of a product of two residues, with no division.
+/// The residue of `x`, with no division. Asks that `x` is below `2^62`, as a product of two residues
+/// is.
 ///
 /// `quotient` is the quotient or one less. The remainder by 2^32 takes nothing away: it says that
 /// 32 bits are enough, and lanes of them can be multiplied at a time.

@@ -1,5 +1,7 @@
+//! The ring of the prime field.
 ghost use Rattle.std.specs.Prelude.{◌≡◌, refl};
-ghost use Rattle.mlu_lanes.specs.BabyBear.{baby_bear_ring, baby_bear_laws, eq_canonical};
+ghost use Rattle.mlu_lanes.specs.BabyBear.{baby_bear_ring, baby_bear_laws, canonical_are_residues};
+ghost use Rattle.mlu_lanes.specs.Residues.{eq_residues};
 
 use super::reduce::{reduce_once, reduce_product, reduce_word};
 use super::{BabyBear, MODULUS};
@@ -75,7 +77,7 @@ impl<const W: usize> Additive for BabyBear<W> {
 
     ghost one_is = { refl };
 
-    ghost eq_is = { eq_canonical };
+    ghost eq_is = { eq_residues canonical_are_residues };
 
     ghost can_add_law = { λ a b. tt };
 

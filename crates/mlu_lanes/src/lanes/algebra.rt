@@ -1,10 +1,12 @@
+//! Lanes over their elements, and over themselves.
 ghost use Rattle.std.specs.Prelude.{◌≡◌, refl};
+ghost use Rattle.mlu_ring.proofs.TrivialExtension.{identity_is_ring_map};
 ghost use Rattle.mlu_lanes.specs.LaneRing.{splat, splat_is_ring_map};
-ghost use Rattle.mlu_lanes.specs.Itself.{identity_is_ring_map};
 
 use super::Lanes;
 use mlu_ring::{Additive, Algebra, PrimeCharacteristicRing, SelfAlgebra};
 
+/// An element stands for itself in every lane.
 impl<F: PrimeCharacteristicRing, const W: usize> Algebra<F> for Lanes<F, W> {
     ghost embed = { splat W };
 
@@ -22,16 +24,6 @@ impl<F: PrimeCharacteristicRing, const W: usize> Algebra<Lanes<F, W>> for Lanes<
     #[inline]
     fn from_base(b: Self) -> Self {
         b
-    }
-
-    #[inline]
-    fn scale(self, b: Self) -> Self {
-        self * b
-    }
-
-    #[inline]
-    fn plus(self, b: Self) -> Self {
-        self + b
     }
 
     ghost keeps = { identity_is_ring_map Self.ring };

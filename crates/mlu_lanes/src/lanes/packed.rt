@@ -1,6 +1,6 @@
+//! Lanes as a packed value, at the widths that are powers of two.
 ghost use Rattle.std.specs.Prelude.{◌≡◌, ◌^◌, ℕ, refl};
-ghost use Rattle.mlu_lanes.specs.LaneRing.{values_of};
-ghost use Rattle.mlu_lanes.specs.Fill.{packed_of, lanes_are_lists};
+ghost use Rattle.mlu_lanes.specs.LaneRing.{values_of, packed_of, lanes_are_lists};
 
 use super::Lanes;
 use mlu_ring::{Additive, PackedValue};

@@ -1,7 +1,8 @@
+//! The ring of lanes: each operation goes lane by lane.
 ghost use Rattle.std.specs.Prelude.{◌≡◌, ◌<◌, slice_index_or};
 ghost use Rattle.std.proofs.Common.{ap};
 ghost use Rattle.mlu_lanes.specs.LaneRing.{values_of, splat, lane_ring, lane_laws, eq_lanes, splat_two, splat_neg_one};
-ghost use Rattle.mlu_lanes.specs.ByPlaces.{EachBelow, EachPairBelow, EachTripleBelow, zipped_by, mapped_by};
+ghost use Rattle.mlu_lanes.specs.Entrywise.{Entrywise, EntrywisePair, EntrywiseTriple, zipped_by, mapped_by};
 
 use super::Lanes;
 use mlu_ring::{Additive, PrimeCharacteristicRing};
@@ -10,9 +11,9 @@ use std::ops::{Add, Mul, Neg, Sub};
 impl<F: Add<Output = F> + Copy, const W: usize> Add for Lanes<F, W> {
     type Output = Self;
 
-    ghost can_add = { λ a b. EachPairBelow W F.can_add (values_of a) (values_of b) };
+    ghost can_add = { λ a b. EntrywisePair W F.can_add (values_of a) (values_of b) };
 
-    ghost add_gives = { λ a b r. EachTripleBelow W F.add_gives (values_of a) (values_of b) (values_of r) };
+    ghost add_gives = { λ a b r. EntrywiseTriple W F.add_gives (values_of a) (values_of b) (values_of r) };
 
     #[inline]
     fn add(self, other: Self) -> Self {
@@ -27,9 +28,9 @@ impl<F: Add<Output = F> + Copy, const W: usize> Add for Lanes<F, W> {
 impl<F: Sub<Output = F> + Copy, const W: usize> Sub for Lanes<F, W> {
     type Output = Self;
 
-    ghost can_sub = { λ a b. EachPairBelow W F.can_sub (values_of a) (values_of b) };
+    ghost can_sub = { λ a b. EntrywisePair W F.can_sub (values_of a) (values_of b) };
 
-    ghost sub_gives = { λ a b r. EachTripleBelow W F.sub_gives (values_of a) (values_of b) (values_of r) };
+    ghost sub_gives = { λ a b r. EntrywiseTriple W F.sub_gives (values_of a) (values_of b) (values_of r) };
 
     #[inline]
     fn sub(self, other: Self) -> Self {
@@ -44,9 +45,9 @@ impl<F: Sub<Output = F> + Copy, const W: usize> Sub for Lanes<F, W> {
 impl<F: Neg<Output = F> + Copy, const W: usize> Neg for Lanes<F, W> {
     type Output = Self;
 
-    ghost can_neg = { λ a. EachBelow W F.can_neg (values_of a) };
+    ghost can_neg = { λ a. Entrywise W F.can_neg (values_of a) };
 
-    ghost neg_gives = { λ a r. EachPairBelow W F.neg_gives (values_of a) (values_of r) };
+    ghost neg_gives = { λ a r. EntrywisePair W F.neg_gives (values_of a) (values_of r) };
 
     #[inline]
     fn neg(self) -> Self {
@@ -97,9 +98,9 @@ impl<F: Additive, const W: usize> Additive for Lanes<F, W> {
 impl<F: Mul<Output = F> + Copy, const W: usize> Mul for Lanes<F, W> {
     type Output = Self;
 
-    ghost can_mul = { λ a b. EachPairBelow W F.can_mul (values_of a) (values_of b) };
+    ghost can_mul = { λ a b. EntrywisePair W F.can_mul (values_of a) (values_of b) };
 
-    ghost mul_gives = { λ a b r. EachTripleBelow W F.mul_gives (values_of a) (values_of b) (values_of r) };
+    ghost mul_gives = { λ a b r. EntrywiseTriple W F.mul_gives (values_of a) (values_of b) (values_of r) };
 
     #[inline]
     fn mul(self, other: Self) -> Self {

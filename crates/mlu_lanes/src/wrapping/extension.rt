@@ -1,7 +1,9 @@
-ghost use Rattle.std.specs.Prelude.{◌≡◌, ◌∷◌, [], refl};
-ghost use Rattle.mlu_lanes.specs.LaneRing.{values_of, splat, lane_by_lane};
-ghost use Rattle.mlu_lanes.specs.Fill.{packed_of, lanes_are_lists};
-ghost use Rattle.mlu_lanes.specs.Itself.{identity_is_ring_map, only_of, one_coefficient, map_itself, only_transposed};
+//! The words over themselves: the identity as embedding, one coefficient, and the lanes as packed form.
+ghost use Rattle.std.specs.Prelude.{◌≡◌, ◌∷◌, [], refl, slice_index_or};
+ghost use Rattle.std.proofs.Common.{sym};
+ghost use Rattle.std.proofs.lemmas.List.{map-id};
+ghost use Rattle.mlu_ring.proofs.TrivialExtension.{identity_is_ring_map, one_coefficient, only_transposed};
+ghost use Rattle.mlu_lanes.specs.LaneRing.{values_of, splat, packed_of, lanes_are_lists, lane_by_lane};
 ghost use Rattle.mlu_lanes.specs.WrappingU64.{wrapping_ring};
 
 use super::WrappingU64;
@@ -16,16 +18,6 @@ impl<const W: usize> Algebra<WrappingU64<W>> for WrappingU64<W> {
     #[inline]
     fn from_base(b: Self) -> Self {
         b
-    }
-
-    #[inline]
-    fn scale(self, b: Self) -> Self {
-        self * b
-    }
-
-    #[inline]
-    fn plus(self, b: Self) -> Self {
-        self + b
     }
 
     ghost keeps = { identity_is_ring_map (wrapping_ring W) };
@@ -60,7 +52,7 @@ where
 
     ghost coefficients = { λ a. a ∷ [] };
 
-    ghost of_coefficients = { only_of (wrapping_ring W).zero };
+    ghost of_coefficients = { λ cs. slice_index_or cs 0 (wrapping_ring W).zero };
 
     #[inline]
     fn coefficient(&self, _k: usize) -> WrappingU64<W> {
@@ -90,7 +82,7 @@ where
 
     ghost packed_coefficients = { λ p. p ∷ [] };
 
-    ghost of_packed_coefficients = { only_of (splat W (wrapping_ring W).zero) };
+    ghost of_packed_coefficients = { λ cs. slice_index_or cs 0 (splat W (wrapping_ring W).zero) };
 
     #[inline]
     fn from_ext_slice(values: &[WrappingU64<W>]) -> Self {
@@ -125,7 +117,7 @@ where
 
     ghost embeds_element = { λ x. refl };
 
-    ghost embeds_packing = { λ p. map_itself (values_of p) };
+    ghost embeds_packing = { λ p. sym (map-id (values_of p)) };
 
-    ghost transposed = { λ p k c h i. only_transposed (wrapping_ring W).zero (splat W (wrapping_ring W).zero) values_of p k c i };
+    ghost transposed = { λ p k c h i. only_transposed _ _ values_of p k c i };
 }

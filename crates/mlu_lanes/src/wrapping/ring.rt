@@ -1,5 +1,7 @@
+//! The ring of the words, whose operations wrap round.
 ghost use Rattle.std.specs.Prelude.{◌≡◌, refl};
-ghost use Rattle.mlu_lanes.specs.WrappingU64.{wrapping_ring, wrapping_laws, eq_number};
+ghost use Rattle.mlu_lanes.specs.WrappingU64.{wrapping_ring, wrapping_laws, numbers_are_residues};
+ghost use Rattle.mlu_lanes.specs.Residues.{eq_residues};
 
 use super::WrappingU64;
 use mlu_ring::{Additive, PrimeCharacteristicRing};
@@ -74,7 +76,7 @@ impl<const W: usize> Additive for WrappingU64<W> {
 
     ghost one_is = { refl };
 
-    ghost eq_is = { eq_number };
+    ghost eq_is = { eq_residues numbers_are_residues };
 
     ghost can_add_law = { λ a b. tt };
 

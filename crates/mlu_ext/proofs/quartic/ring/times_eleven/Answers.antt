@@ -1,4 +1,5 @@
-use Rattle.mlu_ext.specs.Eleven.{eleven-product}
+-- Eight times, twice and once are eleven times.
+use Rattle.mlu_ext.proofs.Eleven.{eleven-product}
 use Rattle.mlu_ext.proofs.quartic.ring.times_eleven.Goals as goal
 
 pub returns : goal.returns

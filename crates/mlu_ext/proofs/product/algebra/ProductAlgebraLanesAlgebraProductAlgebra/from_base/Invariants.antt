@@ -1,7 +1,8 @@
+-- Below c the entries are those of the element, in all lanes.
 use Rattle.std.proofs.Common.{map}
 use Rattle.mlu_lanes.specs.LaneRing.{splat}
 use Rattle.mlu_ext.specs.Product.{entries_of}
-use Rattle.mlu_lanes.proofs.Filled.{IsFilled}
+use Rattle.mlu_ring.proofs.Filled.{IsFilled}
 use Rattle.mlu_ext.proofs.product.algebra.ProductAlgebraLanesAlgebraProductAlgebra.from_base.Given as goal
 
 abbrev pub invariant-loop-c : goal.invariant-loop-c

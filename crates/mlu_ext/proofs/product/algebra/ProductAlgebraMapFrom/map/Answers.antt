@@ -1,3 +1,4 @@
+-- The image has x in every entry.
 use Rattle.mlu_ext.specs.Product.{same_entries, diagonal}
 use Rattle.mlu_ext.proofs.product.algebra.ProductAlgebraMapFrom.map.Goals as goal
 

@@ -1,7 +1,9 @@
+-- The columns below c are written.
 use Rattle.std.proofs.Common.{◌<◌, ◌≢◌, length, get_or, ap, ◌∙◌, arith, below_more, get_or-set_other, get_or-set_same, length-set}
 use Rattle.mlu_lanes.specs.LaneRing.{values_of, splat}
 use Rattle.mlu_lanes.specs.BabyBear.{baby_bear_ring}
-use Rattle.mlu_ext.specs.ProductMaps.{product-of_columns}
+use Rattle.mlu_ext.specs.ProductMaps.{product_layout}
+use Rattle.mlu_ext.proofs.Transposed.{elements-of_columns}
 use Rattle.mlu_ext.proofs.product.packed.ProductAlgebraLanesBabyBearPackedFieldExtensionBabyBearProductAlgebraBabyBear.from_ext_slice.Goals as goal
 
 pub loop-c-preserved : goal.loop-c-preserved
@@ -21,5 +23,5 @@ pub returns : goal.returns
 returns g c =
     let zero = (baby_bear_ring g.row.W).zero in
     let q = splat g.row.W zero in
-    product-of_columns g.row.W g.row.D zero c.from_array.result c.args.values.now c.requires
+    elements-of_columns zero (product_layout g.row.W g.row.D zero) c.from_array.result c.args.values.now q c.requires
     (λ j h. ap (λ l. values_of (get_or l j q)) c.from_array.ensures ∙ c.loop-c.invariant.columns j (omega arith))

@@ -1,3 +1,4 @@
+-- Below c the entries are the columns of the elements.
 use Rattle.std.proofs.Common.{◌≡◌, ◌<◌, ℕ, length, get_or}
 use Rattle.mlu_lanes.specs.LaneRing.{values_of, splat}
 use Rattle.mlu_lanes.specs.BabyBear.{baby_bear_ring}

@@ -1,6 +1,7 @@
+-- The sum has b in the first coefficient alone.
 use Rattle.std.proofs.Common.{sym, refl, ◌∙◌}
 use Rattle.mlu_ext.specs.QuarticLaws.{quartic_same}
-use Rattle.mlu_ext.specs.QuarticMaps.{sum-constant}
+use Rattle.mlu_ext.proofs.QuarticSums.{sum-constant}
 use Rattle.mlu_ext.proofs.quartic.algebra.QuarticExtensionAnyAlgebraAny.plus.Goals as goal
 
 pub returns : goal.returns

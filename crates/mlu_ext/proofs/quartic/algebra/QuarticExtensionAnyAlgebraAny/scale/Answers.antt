@@ -1,3 +1,4 @@
+-- The product has each coefficient times b.
 use Rattle.std.proofs.Common.{sym, ◌∙◌}
 use Rattle.mlu_ext.specs.QuarticLaws.{quartic_same}
 use Rattle.mlu_ext.specs.QuarticMaps.{product-constant}

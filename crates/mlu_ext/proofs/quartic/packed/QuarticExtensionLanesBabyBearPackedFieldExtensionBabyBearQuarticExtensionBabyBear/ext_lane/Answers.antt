@@ -1,7 +1,8 @@
+-- The coefficients are those of lane k.
 use Rattle.std.proofs.Common.{sym, ◌∙◌}
 use Rattle.mlu_lanes.specs.BabyBear.{baby_bear_ring}
 use Rattle.mlu_ext.specs.QuarticLaws.{quartic_same}
-use Rattle.mlu_ext.specs.QuarticPacked.{quartic-of_lane}
+use Rattle.mlu_ext.proofs.QuarticLanes.{quartic-of_lane}
 use Rattle.mlu_ext.proofs.quartic.packed.QuarticExtensionLanesBabyBearPackedFieldExtensionBabyBearQuarticExtensionBabyBear.ext_lane.Goals as goal
 
 pub returns : goal.returns

@@ -1,6 +1,7 @@
+-- The coefficients are the columns of the elements.
 use Rattle.mlu_lanes.specs.BabyBear.{baby_bear_ring}
 use Rattle.mlu_ext.specs.Quartic.{quartic}
-use Rattle.mlu_ext.specs.QuarticPacked.{quartic-of_columns}
+use Rattle.mlu_ext.proofs.QuarticLanes.{quartic-of_columns}
 use Rattle.mlu_ext.proofs.quartic.packed.QuarticExtensionLanesBabyBearPackedFieldExtensionBabyBearQuarticExtensionBabyBear.from_ext_slice.Goals as goal
 
 pub returns : goal.returns

@@ -1,7 +1,8 @@
+-- Below k the elements of the lanes are written.
 use Rattle.mlu_lanes.specs.BabyBear.{baby_bear_ring}
 use Rattle.mlu_ext.specs.Quartic.{constant}
 use Rattle.mlu_ext.specs.QuarticPacked.{quartic_elements}
-use Rattle.mlu_lanes.proofs.Filled.{IsFilled}
+use Rattle.mlu_ring.proofs.Filled.{IsFilled}
 use Rattle.mlu_ext.proofs.quartic.packed.QuarticExtensionLanesBabyBearPackedFieldExtensionBabyBearQuarticExtensionBabyBear.store_ext.Given as goal
 
 abbrev pub invariant-loop-k : goal.invariant-loop-k

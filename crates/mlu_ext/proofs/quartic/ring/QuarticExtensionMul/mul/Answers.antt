@@ -1,4 +1,5 @@
-use Rattle.mlu_ext.specs.QuarticLaws.{product-rows}
+-- Each coefficient of the product is a sum of four products.
+use Rattle.mlu_ext.proofs.QuarticSums.{product-rows}
 use Rattle.mlu_ext.proofs.quartic.ring.QuarticExtensionMul.mul.Goals as goal
 
 pub returns : goal.returns

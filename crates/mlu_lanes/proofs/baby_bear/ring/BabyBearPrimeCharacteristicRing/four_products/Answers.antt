@@ -1,3 +1,4 @@
+-- One reduction gives the sum of four products.
 use Rattle.mlu_lanes.proofs.ResidueSums.{reduced_once}
 use Rattle.mlu_lanes.proofs.baby_bear.ring.BabyBearPrimeCharacteristicRing.four_products.Goals as goal
 

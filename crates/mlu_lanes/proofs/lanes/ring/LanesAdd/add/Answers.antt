@@ -1,16 +1,9 @@
-use Rattle.std.proofs.Common.{arith, length-set}
-use Rattle.mlu_lanes.specs.LaneRing.{values_of}
-use Rattle.mlu_lanes.specs.ByPlaces.{triple_next}
+-- One lane more is written.
+use Rattle.mlu_lanes.proofs.Entrywise.{written_next}
 use Rattle.mlu_lanes.proofs.lanes.ring.LanesAdd.add.Goals as goal
 
 pub loop-k-preserved : goal.loop-k-preserved
 loop-k-preserved g c =
-    let long = c.loop-k.invariant.long in
-    let own = c.args.self.full in
-    let also = c.args.other.full in
-    let below = c.loop-k-test.true in
-    record {
-      long = rw length-set long;
-      written = triple_next g.F.Add.add_gives (values_of c.args.self) (values_of c.args.other) c.loop-k.values c.loop-k.k c.index-self-k.result c.index-other-k.result c.add.result
-          (omega (arith, own, below)) (omega (arith, also, below)) (omega (arith, long, below)) c.add.ensures c.loop-k.invariant.written;
-    }
+    let done = c.loop-k.invariant in
+    let next = written_next g.F.Add.add_gives c.args.self c.args.other _ _ _ _ _ c.loop-k-test.true done.long c.add.ensures done.written in
+    record { long = next.0; written = next.1 }

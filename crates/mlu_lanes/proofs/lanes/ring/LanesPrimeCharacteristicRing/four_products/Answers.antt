@@ -1,8 +1,9 @@
+-- The lanes below k are sums of four products.
 use Rattle.std.proofs.Common.{◌<◌, [], ◌∷◌, length, sym, ◌∙◌, arith, length-set}
 use Rattle.mlu_ring.specs.Tables.{pair}
 use Rattle.mlu_lanes.specs.LaneRing.{lane_ring, same_values}
-use Rattle.mlu_lanes.proofs.Filled.{filled_next, filled_whole}
-use Rattle.mlu_lanes.proofs.LaneSums.{lane_of_four_products}
+use Rattle.mlu_ring.proofs.Filled.{filled_next, filled_whole}
+use Rattle.mlu_lanes.proofs.OneLane.{lane_of_four_products}
 use Rattle.mlu_lanes.proofs.lanes.ring.LanesPrimeCharacteristicRing.four_products.Goals as goal
 
 pub loop-k-preserved : goal.loop-k-preserved
@@ -14,7 +15,7 @@ loop-k-preserved g c =
     let sums = pair (lane_ring g.row.W ring) (l.0 ∷ l.1 ∷ l.2 ∷ l.3 ∷ []) (r.0 ∷ r.1 ∷ r.2 ∷ r.3 ∷ []) in
     let long = c.loop-k.invariant.long in
     let inside : c.loop-k.k < length c.loop-k.values = omega (arith, long) in
-    let lane = lane_of_four_products g.row.W ring g.met.F.Additive.laws c.loop-k.k c.loop-k-test.true l.0 l.1 l.2 l.3 r.0 r.1 r.2 r.3 in
+    let lane = lane_of_four_products g.row.W ring c.loop-k.k c.loop-k-test.true g.met.F.Additive.laws l.0 l.1 l.2 l.3 r.0 r.1 r.2 r.3 in
     let left = c.lane_of_four.ensures in
     let right = c.lane_of_four-in-loop-k.ensures in
     record {

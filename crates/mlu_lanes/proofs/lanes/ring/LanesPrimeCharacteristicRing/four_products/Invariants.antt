@@ -1,7 +1,8 @@
+-- Below k the lanes of the sum of four products are filled.
 use Rattle.std.proofs.Common.{◌≡◌, [], ◌∷◌, length}
 use Rattle.mlu_ring.specs.Tables.{pair}
 use Rattle.mlu_lanes.specs.LaneRing.{values_of, lane_ring}
-use Rattle.mlu_lanes.proofs.Filled.{IsFilled}
+use Rattle.mlu_ring.proofs.Filled.{IsFilled}
 use Rattle.mlu_lanes.proofs.lanes.ring.LanesPrimeCharacteristicRing.four_products.Given as goal
 
 abbrev pub invariant-loop-k : goal.invariant-loop-k

@@ -1,10 +1,11 @@
+-- Below k the relation of the operator is written.
 use Rattle.std.proofs.Common.{◌≡◌, length}
 use Rattle.mlu_lanes.specs.LaneRing.{values_of}
-use Rattle.mlu_lanes.specs.ByPlaces.{EachTripleBelow}
+use Rattle.mlu_lanes.specs.Entrywise.{EntrywiseTriple}
 use Rattle.mlu_lanes.proofs.lanes.ring.LanesSub.sub.Given as goal
 
 abbrev pub invariant-loop-k : goal.invariant-loop-k
 invariant-loop-k g l = record {
   long : length l.values ≡ g.row.W;
-  written : EachTripleBelow l.k g.F.Sub.sub_gives (values_of l.self) (values_of l.other) l.values;
+  written : EntrywiseTriple l.k g.F.Sub.sub_gives (values_of l.self) (values_of l.other) l.values;
 }

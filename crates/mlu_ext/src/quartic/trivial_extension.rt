@@ -1,7 +1,9 @@
-ghost use Rattle.std.specs.Prelude.{◌∷◌, [], refl};
-ghost use Rattle.mlu_lanes.specs.LaneRing.{values_of, splat, lane_by_lane};
-ghost use Rattle.mlu_lanes.specs.Fill.{packed_of, lanes_are_lists};
-ghost use Rattle.mlu_lanes.specs.Itself.{only_of, one_coefficient, map_itself, only_transposed};
+//! A polynomial over the prime field as the extension of itself.
+ghost use Rattle.std.specs.Prelude.{◌∷◌, [], refl, slice_index_or};
+ghost use Rattle.std.proofs.Common.{sym};
+ghost use Rattle.std.proofs.lemmas.List.{map-id};
+ghost use Rattle.mlu_ring.proofs.TrivialExtension.{one_coefficient, only_transposed};
+ghost use Rattle.mlu_lanes.specs.LaneRing.{values_of, splat, packed_of, lanes_are_lists, lane_by_lane};
 ghost use Rattle.mlu_lanes.specs.BabyBear.{baby_bear_ring};
 ghost use Rattle.mlu_ext.specs.Quartic.{quartic_ring};
 
@@ -19,7 +21,7 @@ impl<const W: usize> ExtensionField<QuarticExtension<BabyBear<W>>>
 
     ghost coefficients = { λ a. a ∷ [] };
 
-    ghost of_coefficients = { only_of (quartic_ring (baby_bear_ring W)).zero };
+    ghost of_coefficients = { λ cs. slice_index_or cs 0 (quartic_ring (baby_bear_ring W)).zero };
 
     #[inline]
     fn coefficient(&self, _k: usize) -> Self {
@@ -48,7 +50,7 @@ impl<const W: usize> PackedFieldExtension<
 
     ghost packed_coefficients = { λ p. p ∷ [] };
 
-    ghost of_packed_coefficients = { only_of (splat 1 (quartic_ring (baby_bear_ring W)).zero) };
+    ghost of_packed_coefficients = { λ cs. slice_index_or cs 0 (splat 1 (quartic_ring (baby_bear_ring W)).zero) };
 
     #[inline]
     fn from_ext_slice(values: &[QuarticExtension<BabyBear<W>>]) -> Self {
@@ -83,7 +85,7 @@ impl<const W: usize> PackedFieldExtension<
 
     ghost embeds_element = { λ x. refl };
 
-    ghost embeds_packing = { λ p. map_itself (values_of p) };
+    ghost embeds_packing = { λ p. sym (map-id (values_of p)) };
 
-    ghost transposed = { λ p k c h i. only_transposed (quartic_ring (baby_bear_ring W)).zero (splat 1 (quartic_ring (baby_bear_ring W)).zero) values_of p k c i };
+    ghost transposed = { λ p k c h i. only_transposed _ _ values_of p k c i };
 }
