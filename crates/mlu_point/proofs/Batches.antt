@@ -1,72 +1,27 @@
--- Batches of equality tables: one variable at a time, and what they leave in an output.
-use Rattle.std.proofs.Common.{not, nat_eq, ◌≡◌, ℕ, zero, suc, ◌+◌, ◌-◌, ◌*◌, ◌/◌, ◌^◌, ◌<◌, ◌≤◌, Bool, true, false, List, [], ◌∷◌, ◌++◌, map, length, get_or, take, drop, set, refl, sym, ap, ◌∙◌, arith, zero-add, length-take, length-drop}
+-- Batches of equality tables, one variable at a time.
+use Rattle.std.proofs.Common.{not, nat_eq, ◌≡◌, ℕ, zero, suc, ◌+◌, ◌-◌, ◌*◌, ◌/◌, ◌^◌, ◌<◌, ◌≤◌, Bool, true, List, [], ◌∷◌, ◌++◌, map, length, get_or, take, drop, set, refl, sym, subst, ap, ◌∙◌, arith, zero-add, length-drop}
 use Rattle.std.specs.Prelude.{if◌then◌else◌}
 use Rattle.std.specs.List.{range_with_len}
 use Rattle.std.specs.Simd.Lanes.{zip2}
 use Rattle.std.proofs.lemmas.Bool.{ne_eqb}
-use Rattle.std.proofs.lemmas.List.{get_or-drop, get_or-take, get_or-map, length-map, drop-map}
 use Rattle.std.proofs.lemmas.List.FromFn.{length-map-range_with_len, get_or-map-range_with_len, fill_by_all}
-use Rattle.std.proofs.Math.Nat.{mul-div_cancel, zero-div}
+use Rattle.std.proofs.Math.Nat.{mul-div_cancel}
 use Rattle.mlu_ring.specs.Ring.{Ring, RingLaws}
-use Rattle.mlu_ring.specs.Sums.{sum_of, sum_below, product_below}
+use Rattle.mlu_ring.specs.Sums.{sum_of, sum_below}
 use Rattle.mlu_ring.specs.Tables.{weight}
 use Rattle.mlu_ring.specs.Matrices.{AreRows, column, batch, left_by}
-use Rattle.mlu_ring.proofs.Rings.{sum_zero, sum_product, product_one, product_left_comm, product_negation, negation_product}
+use Rattle.mlu_ring.proofs.Rings.{sum_zero, sum_product, product_one, product_negation, negation_product}
 use Rattle.mlu_ring.proofs.SumsBelow.{map_from, sum_below-same, sum_below-zero, sum_below-suc}
 use Rattle.mlu_ring.proofs.Values.{weight-low, weight-high}
 use Rattle.mlu_ring.proofs.Doubling.{map_range-add}
-
--- what is written in two halves
-pub zip-append : {A B : Type 0} (f : A → B → A) (m : ℕ) (old : List A) (a b : List B) → length a ≡ m → m ≤ length old → zip2 f (take m old) a ++ zip2 f (drop m old) b ≡ zip2 f old (a ++ b)
-zip-append f zero old [] b h k = refl
-zip-append f zero old (y ∷ a) b h k = absurd (omega arith)
-zip-append f (suc m) [] a b h k = absurd (omega arith)
-zip-append f (suc m) (x ∷ old) [] b h k = absurd (omega arith)
-zip-append f (suc m) (x ∷ old) (y ∷ a) b h k = ap (λ l. f x y ∷ l) (zip-append f m old a b (omega arith) (omega arith))
+use Rattle.mlu_point.proofs.Weights.{weight-none}
+use Rattle.mlu_point.proofs.Outputs.{left-append, left-one}
+use Rattle.mlu_point.proofs.Columns.{column-first, length-column, column-none}
 
 module _ {R : Type 0} (ring : Ring R) where
-  pub left-append : (adds : Bool) (m : ℕ) (old a b : List R) → length a ≡ m → m ≤ length old → left_by ring adds (take m old) a ++ left_by ring adds (drop m old) b ≡ left_by ring adds old (a ++ b)
-  left-append true m old a b h k = zip-append ring.sum m old a b h k
-  left-append false m old a b h k = refl
-
-  -- one entry written
-  pub left-one : (adds : Bool) (out : List R) (o t r : R) → length out ≡ 1 → o ≡ get_or out 0 o → r ≡ (if adds then ring.sum o t else t) → set out 0 r ≡ left_by ring adds out (t ∷ [])
-  left-one adds [] o t r h at is = absurd (omega arith)
-  left-one true (x ∷ []) o t r h at is = ap (λ y. y ∷ []) (is ∙ ap (λ z. ring.sum z t) at)
-  left-one false (x ∷ []) o t r h at is = ap (λ y. y ∷ []) is
-  left-one adds (x ∷ y ∷ more) o t r h at is = absurd (omega arith)
-
   pub length-batch : (values scalars : List R) (n : ℕ) → length (batch ring values scalars n) ≡ n
   unfolding batch
   length-batch values scalars n = length-map-range_with_len _ 0 n
-
-  -- the point of a column is its first coordinate before the point of the other rows
-  column-first : (values : List R) (w i h : ℕ) → length values / w ≡ suc h → length (drop w values) / w ≡ h → column ring values w i ≡ get_or values i ring.zero ∷ column ring (drop w values) w i
-  unfolding column
-  column-first values w i h rows fewer =
-      let f = λ (j : ℕ). get_or values (j * w + i) ring.zero in
-      let g = λ (j : ℕ). get_or (drop w values) (j * w + i) ring.zero in
-      let none : 0 * w + i ≡ i = omega arith in
-      ap (λ n. map f (range_with_len 0 n)) rows
-      ∙ ap (λ l. f 0 ∷ l)
-      (map_from 1 0 h f g
-      (λ k q.
-      let later : (1 + k) * w + i ≡ w + ((0 + k) * w + i) = omega arith in
-      ap (λ n. get_or values n ring.zero) later ∙ sym (get_or-drop w values ((0 + k) * w + i) ring.zero)))
-      ∙ ap (λ n. get_or values n ring.zero ∷ map g (range_with_len 0 h)) none
-      ∙ ap (λ n. get_or values i ring.zero ∷ map g (range_with_len 0 n)) (sym fewer)
-
-  length-column : (values : List R) (w i : ℕ) → length (column ring values w i) ≡ length values / w
-  unfolding column
-  length-column values w i = length-map-range_with_len _ 0 (length values / w)
-
-  column-none : (values : List R) (w i : ℕ) → length values / w ≡ 0 → column ring values w i ≡ []
-  unfolding column
-  column-none values w i none = ap (λ n. map (λ j. get_or values (j * w + i) ring.zero) (range_with_len 0 n)) none
-
-  weight-none : (x : ℕ) → weight ring [] x ≡ ring.one
-  unfolding weight product_below
-  weight-none x = refl
 
 module _ {R : Type 0} (ring : Ring R) (laws : RingLaws ring) where
   infixl 50 ◌⊕◌
@@ -79,35 +34,32 @@ module _ {R : Type 0} (ring : Ring R) (laws : RingLaws ring) where
   entry values scalars w x = sum_below ring w (λ i. get_or scalars i 𝟘 ⊗ weight ring (column ring values w i) x)
 
   keeps : (s c w : R) → s ⊗ ((𝟙 ⊖ c) ⊗ w) ≡ (s ⊖ (s ⊗ c)) ⊗ w
-  keeps s c w = simp (laws.minus_is, laws.product_sum, sum_product ring laws, laws.one_product, product_negation ring laws, negation_product ring laws, laws.product_assoc, laws.product_comm, product_left_comm ring laws)
+  keeps s c w = simp (laws.minus_is, laws.product_sum, sum_product ring laws, laws.one_product, product_negation ring laws, negation_product ring laws, laws.product_assoc)
+
+  -- an entry at y of the points is one at x of the points without their first coordinate, if so it is for each scalar
+  entry-first : (values s t : List R) (w h x y : ℕ) → length values / w ≡ suc h → length (drop w values) / w ≡ h
+      → ((i : ℕ) (p : List R) → i < w → length p ≡ h → get_or s i 𝟘 ⊗ weight ring (get_or values i 𝟘 ∷ p) y ≡ get_or t i 𝟘 ⊗ weight ring p x) → entry values s w y ≡ entry (drop w values) t w x
+  entry-first values s t w h x y rows fewer each =
+      sum_below-same ring w (λ i. get_or s i 𝟘 ⊗ weight ring (column ring values w i) y) (λ i. get_or t i 𝟘 ⊗ weight ring (column ring (drop w values) w i) x)
+      (λ i q. ap (λ p. get_or s i 𝟘 ⊗ weight ring p y) (column-first ring values w i h rows fewer) ∙ each i (column ring (drop w values) w i) q (length-column ring (drop w values) w i ∙ fewer))
 
   -- the scalars that go to the lower half, and those that go to the upper half
   entry-low : (values s low : List R) (w h x : ℕ) → length values / w ≡ suc h → length (drop w values) / w ≡ h → ((i : ℕ) → i < w → get_or low i 𝟘 ≡ get_or s i 𝟘 ⊖ (get_or s i 𝟘 ⊗ get_or values i 𝟘)) → x < 2 ^ h → entry values s w x ≡ entry (drop w values) low w x
   entry-low values s low w h x rows fewer shares below =
-      sum_below-same ring w (λ i. get_or s i 𝟘 ⊗ weight ring (column ring values w i) x) (λ i. get_or low i 𝟘 ⊗ weight ring (column ring (drop w values) w i) x)
-      (λ i q.
-      let c = get_or values i 𝟘 in
-      let rest = column ring (drop w values) w i in
-      let size : 2 ^ h ≡ 2 ^ length rest = ap (λ n. 2 ^ n) (sym (length-column ring (drop w values) w i ∙ fewer)) in
-      let inside : x < 2 ^ length rest = omega (arith, size, below) in
-      ap (λ p. get_or s i 𝟘 ⊗ weight ring p x) (column-first ring values w i h rows fewer)
-      ∙ ap (λ t. get_or s i 𝟘 ⊗ t) (weight-low ring c rest x inside)
-      ∙ keeps (get_or s i 𝟘) c (weight ring rest x)
-      ∙ ap (λ t. t ⊗ weight ring rest x) (sym (shares i q)))
+      entry-first values s low w h x x rows fewer
+      (λ i p q long.
+      let inside : x < 2 ^ length p = subst (λ n. x < 2 ^ n) (sym long) below in
+      ap (λ t. get_or s i 𝟘 ⊗ t) (weight-low ring (get_or values i 𝟘) p x inside) ∙ keeps (get_or s i 𝟘) (get_or values i 𝟘) (weight ring p x) ∙ ap (λ t. t ⊗ weight ring p x) (sym (shares i q)))
 
   entry-high : (values s high : List R) (w h x : ℕ) → length values / w ≡ suc h → length (drop w values) / w ≡ h → ((i : ℕ) → i < w → get_or high i 𝟘 ≡ get_or s i 𝟘 ⊗ get_or values i 𝟘) → x < 2 ^ h → entry values s w (2 ^ h + x) ≡ entry (drop w values) high w x
   entry-high values s high w h x rows fewer shares below =
-      sum_below-same ring w (λ i. get_or s i 𝟘 ⊗ weight ring (column ring values w i) (2 ^ h + x)) (λ i. get_or high i 𝟘 ⊗ weight ring (column ring (drop w values) w i) x)
-      (λ i q.
-      let c = get_or values i 𝟘 in
-      let rest = column ring (drop w values) w i in
-      let size : 2 ^ h ≡ 2 ^ length rest = ap (λ n. 2 ^ n) (sym (length-column ring (drop w values) w i ∙ fewer)) in
-      let inside : x < 2 ^ length rest = omega (arith, size, below) in
-      ap (λ p. get_or s i 𝟘 ⊗ weight ring p (2 ^ h + x)) (column-first ring values w i h rows fewer)
-      ∙ ap (λ n. get_or s i 𝟘 ⊗ weight ring (c ∷ rest) (n + x)) size
-      ∙ ap (λ t. get_or s i 𝟘 ⊗ t) (weight-high ring c rest x inside)
-      ∙ sym (laws.product_assoc (get_or s i 𝟘) c (weight ring rest x))
-      ∙ ap (λ t. t ⊗ weight ring rest x) (sym (shares i q)))
+      entry-first values s high w h x (2 ^ h + x) rows fewer
+      (λ i p q long.
+      let inside : x < 2 ^ length p = subst (λ n. x < 2 ^ n) (sym long) below in
+      ap (λ n. get_or s i 𝟘 ⊗ weight ring (get_or values i 𝟘 ∷ p) (2 ^ n + x)) (sym long)
+      ∙ ap (λ t. get_or s i 𝟘 ⊗ t) (weight-high ring (get_or values i 𝟘) p x inside)
+      ∙ sym (laws.product_assoc (get_or s i 𝟘) (get_or values i 𝟘) (weight ring p x))
+      ∙ ap (λ t. t ⊗ weight ring p x) (sym (shares i q)))
 
   batch-first : (values s low high : List R) (w h : ℕ) → length values / w ≡ suc h → length (drop w values) / w ≡ h → length s ≡ w → length low ≡ w → length high ≡ w
       → ((i : ℕ) → i < w → get_or low i 𝟘 ≡ get_or s i 𝟘 ⊖ (get_or s i 𝟘 ⊗ get_or values i 𝟘)) → ((i : ℕ) → i < w → get_or high i 𝟘 ≡ get_or s i 𝟘 ⊗ get_or values i 𝟘)
@@ -163,7 +115,7 @@ module _ {R : Type 0} (ring : Ring R) (laws : RingLaws ring) where
   batch-none values s none =
       ap (λ t. t ∷ [])
       (sum_below-same ring (length s) (λ i. get_or s i 𝟘 ⊗ weight ring (column ring values (length s) i) 0) (λ i. get_or s i 𝟘 ⊗ 𝟙)
-      (λ i q. ap (λ p. get_or s i 𝟘 ⊗ weight ring p 0) (column-none ring values (length s) i none) ∙ ap (λ t. get_or s i 𝟘 ⊗ t) (weight-none ring 0))
+      (λ i q. ap (λ p. get_or s i 𝟘 ⊗ weight ring p 0) (column-none ring values (length s) i none) ∙ ap (λ t. get_or s i 𝟘 ⊗ t) (weight-none ring laws 0))
       ∙ sum_below-entries s)
 
   no_points : (values s : List R) (x : ℕ) → length s ≡ 0 → entry values s (length s) x ≡ 𝟘
@@ -210,76 +162,3 @@ module _ {R : Type 0} (ring : Ring R) (laws : RingLaws ring) where
       → cleared ≡ left_by ring (not (nat_eq flag 0)) out (batch ring values s (length out))
   batch-cleared zero values s out cleared is none long zeros = zeros-batch values s cleared (length out) none long zeros
   batch-cleared (suc flag) values s out cleared is none long zeros = absurd (omega arith)
-
--- the lengths where one row of s values is split off from v values, and an output in two halves
-lengths : (h v o s out lo hi : ℕ) → 0 < s → v ≡ v / s * s → v / s ≡ suc h → o ≡ v - 1 * s → out ≡ 2 ^ (v / s) → lo ≡ out / 2 → hi ≡ out - out / 2 → (o < v) × (o + s ≡ v) × (lo ≡ 2 ^ (o / s)) × (hi ≡ 2 ^ (o / s))
-lengths h v o s out lo hi some whole rows rest size low high =
-    let sum : v ≡ suc h * s = whole ∙ ap (λ q. q * s) rows in
-    let less : o ≡ h * s = omega (arith, sum, rest) in
-    let quotient : o / s ≡ h = ap (λ n. n / s) less ∙ mul-div_cancel h some in
-    let long : out ≡ 2 ^ suc h = size ∙ ap (λ n. 2 ^ n) rows in
-    let power : 2 ^ (o / s) ≡ 2 ^ h = ap (λ n. 2 ^ n) quotient in
-    (omega (arith, sum, less, some), omega (arith, sum, less), omega (arith, long, low, power), omega (arith, long, high, power))
-
-pub split-lengths : (v o s out lo hi : ℕ) → 0 < s → AreRows v s → (v / s ≡ 0 → ⊥) → o ≡ v - 1 * s → out ≡ 2 ^ (v / s) → lo ≡ out / 2 → hi ≡ out - out / 2 → (o < v) × (o + s ≡ v) × (lo ≡ 2 ^ (o / s)) × (hi ≡ 2 ^ (o / s))
-split-lengths v o s out lo hi some whole rows rest size low high =
-    let one_more : v / s ≡ suc (v / s - 1) = omega (arith, rows) in
-    lengths (v / s - 1) v o s out lo hi some whole one_more rest size low high
-
-module _ {C R : Type 0} (ring : Ring R) (laws : RingLaws ring) (image : C → R) where
-  infixl 50 ◌⊖◌
-  infixl 60 ◌⊗◌
-  open ring use {product as ◌⊗◌, minus as ◌⊖◌, zero as 𝟘}
-
-  within_row : (h i n w : ℕ) → n ≡ suc h * w → i < w → i < n
-  within_row h i n w size below = omega (arith, size, below)
-
-  -- what is read of the first row is read of the values
-  first-row : (vs first : List C) (s h i : ℕ) (c : C) → first ≡ take (1 * s) vs → length vs ≡ suc h * s → i < s → image (get_or first i c) ≡ get_or (map image vs) i 𝟘
-  first-row vs first s h i c is size below =
-      let inside : i < length vs = within_row h i (length vs) s size below in
-      let row : i < 1 * s = omega (arith, below) in
-      ap image (ap (λ l. get_or l i c) is ∙ get_or-take (1 * s) vs i c row) ∙ sym (get_or-map image vs i c 𝟘 inside)
-
-  fill-parts : (c : C) (adds : Bool) (vs first others : List C) (s low high out lower upper left right : List R) (h half : ℕ)
-      → 0 < length s → AreRows (length vs) (length s) → length vs / length s ≡ suc h → first ≡ take (1 * length s) vs → others ≡ drop (1 * length s) vs
-      → length low ≡ length s → length high ≡ length s
-      → ((i : ℕ) (d : R) (c : C) → i < length s → get_or low i d ≡ get_or s i d ⊖ (get_or s i d ⊗ image (get_or first i c)))
-      → ((i : ℕ) (d : R) (c : C) → i < length s → get_or high i d ≡ get_or s i d ⊗ image (get_or first i c))
-      → length out ≡ 2 ^ (length vs / length s) → half ≡ length out / 2 → lower ≡ take half out → upper ≡ drop half out
-      → left ≡ left_by ring adds lower (batch ring (map image others) low (length lower)) → right ≡ left_by ring adds upper (batch ring (map image others) high (length upper))
-      → left ++ right ≡ left_by ring adds out (batch ring (map image vs) s (length out))
-  fill-parts c adds vs first others s low high out lower upper left right h half some whole rows is_first is_others size_low size_high lows highs size is_half is_lower is_upper is_left is_right =
-      let w = length s in
-      let values = map image vs in
-      let sum : length vs ≡ suc h * length s = whole ∙ ap (λ q. q * length s) rows in
-      let same : length (map image vs) ≡ length vs = length-map vs image in
-      let whole_values : AreRows (length (map image vs)) (length s) = same ∙ whole ∙ ap (λ n. n / length s * length s) (sym same) in
-      let rows_values : length (map image vs) / length s ≡ suc h = ap (λ n. n / length s) same ∙ rows in
-      let long : length out ≡ 2 ^ suc h = size ∙ ap (λ n. 2 ^ n) rows in
-      let power : half ≡ 2 ^ h = omega (arith, long, is_half) in
-      let one : 1 * length s ≡ length s = omega arith in
-      let rest : map image others ≡ drop w values = ap (λ l. map image l) (is_others ∙ ap (λ n. drop n vs) one) ∙ sym (drop-map image w vs) in
-      let size_lower : length lower ≡ half = ap length is_lower ∙ omega (arith, length-take half out, long, power) in
-      let size_upper : length upper ≡ half = ap length is_upper ∙ omega (arith, length-drop half out, long, power) in
-      ap (λ l. l ++ right) (is_left ∙ ap (λ l. left_by ring adds l (batch ring (map image others) low (length lower))) is_lower ∙ ap (λ n. left_by ring adds (take half out) (batch ring (map image others) low n)) size_lower ∙ ap (λ l. left_by ring adds (take half out) (batch ring l low half)) rest)
-      ∙ ap (λ l. left_by ring adds (take half out) (batch ring (drop w values) low half) ++ l) (is_right ∙ ap (λ l. left_by ring adds l (batch ring (map image others) high (length upper))) is_upper ∙ ap (λ n. left_by ring adds (drop half out) (batch ring (map image others) high n)) size_upper ∙ ap (λ l. left_by ring adds (drop half out) (batch ring l high half)) rest)
-      ∙ left-batch ring laws adds values s low high out w half h some whole_values rows_values refl size_low size_high
-      (λ i below. lows i 𝟘 c below ∙ ap (λ t. get_or s i 𝟘 ⊖ (get_or s i 𝟘 ⊗ t)) (first-row vs first w h i c is_first sum below))
-      (λ i below. highs i 𝟘 c below ∙ ap (λ t. get_or s i 𝟘 ⊗ t) (first-row vs first w h i c is_first sum below))
-      (long ∙ ap (λ n. 2 ^ n) (sym rows_values)) power
-
-  -- the two halves that the recursion leaves
-  pub fill-step : (adds : Bool) (vs first others : List C) (s low high out lower upper left right : List R) (half : ℕ)
-      → 0 < length s → AreRows (length vs) (length s) → (length vs / length s ≡ 0 → ⊥) → first ≡ take (1 * length s) vs → others ≡ drop (1 * length s) vs
-      → length low ≡ length s → length high ≡ length s
-      → ((i : ℕ) (d : R) (c : C) → i < length s → get_or low i d ≡ get_or s i d ⊖ (get_or s i d ⊗ image (get_or first i c)))
-      → ((i : ℕ) (d : R) (c : C) → i < length s → get_or high i d ≡ get_or s i d ⊗ image (get_or first i c))
-      → length out ≡ 2 ^ (length vs / length s) → half ≡ length out / 2 → lower ≡ take half out → upper ≡ drop half out
-      → left ≡ left_by ring adds lower (batch ring (map image others) low (length lower)) → right ≡ left_by ring adds upper (batch ring (map image others) high (length upper))
-      → left ++ right ≡ left_by ring adds out (batch ring (map image vs) s (length out))
-  fill-step adds [] first others s low high out lower upper left right half some whole positive is_first is_others size_low size_high lows highs size is_half is_lower is_upper is_left is_right =
-      absurd (positive (zero-div (length s)))
-  fill-step adds (c ∷ vs) first others s low high out lower upper left right half some whole positive is_first is_others size_low size_high lows highs size is_half is_lower is_upper is_left is_right =
-      let rows : length (c ∷ vs) / length s ≡ suc (length (c ∷ vs) / length s - 1) = omega (arith, positive) in
-      fill-parts c adds (c ∷ vs) first others s low high out lower upper left right (length (c ∷ vs) / length s - 1) half some whole rows is_first is_others size_low size_high lows highs size is_half is_lower is_upper is_left is_right

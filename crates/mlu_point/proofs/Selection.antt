@@ -1,54 +1,14 @@
 -- The value of the table of the powers of an element, from the last coordinate on.
-use Rattle.std.proofs.Common.{◌≡◌, ℕ, suc, ◌+◌, ◌-◌, ◌^◌, ◌<◌, ◌≤◌, List, [], ◌∷◌, ◌++◌, map, length, get_or, drop, refl, sym, ap, ◌∙◌, arith, zero-add}
-use Rattle.std.specs.List.{range_with_len}
+use Rattle.std.proofs.Common.{◌≡◌, ℕ, suc, ◌+◌, ◌-◌, ◌^◌, ◌<◌, ◌≤◌, List, [], ◌∷◌, ◌++◌, map, length, get_or, drop, sym, ap, ◌∙◌, arith}
 use Rattle.std.proofs.lemmas.List.{map-append, length-map}
-use Rattle.std.proofs.lemmas.List.FromFn.{length-map-range_with_len}
 use Rattle.mlu_ring.specs.Ring.{Ring, RingLaws, IsRingMap}
 use Rattle.mlu_ring.specs.Tables.{value, power}
 use Rattle.mlu_point.specs.Powers.{powers_below}
-use Rattle.mlu_ring.proofs.Rings.{sum_product, product_one, product_left_comm, product_negation, negation_product, sum_left_comm}
-use Rattle.mlu_ring.proofs.SumsBelow.{map_from}
 use Rattle.mlu_ring.proofs.Values.{value-none}
-use Rattle.mlu_ring.proofs.Doubling.{map_range-add, map_twice}
-use Rattle.mlu_ring.proofs.Univariate.{power-add}
+use Rattle.mlu_ring.proofs.RingMaps.{map-minus}
 use Rattle.mlu_point.proofs.Suffixes.{suffix-none, suffix-more, suffix-whole, length-suffix}
-use Rattle.mlu_point.proofs.Equality.{value-scaled, value-halves, map-scaled, map-minus}
-
-module _ {R : Type 0} (ring : Ring R) (laws : RingLaws ring) where
-  infixl 50 ◌⊕◌
-  infixl 50 ◌⊖◌
-  infixl 60 ◌⊗◌
-  open ring use {sum as ◌⊕◌, product as ◌⊗◌, minus as ◌⊖◌, zero as 𝟘, one as 𝟙}
-
-  -- the square of a power of two
-  pub power-doubled : (y p r : R) (k : ℕ) → p ≡ power ring y (2 ^ k) → r ≡ p ⊗ p → r ≡ power ring y (2 ^ (k + 1))
-  power-doubled y p r k is made =
-      let next : k + 1 ≡ suc k = omega arith in
-      let twice : 2 ^ k + 2 ^ k ≡ 2 ^ suc k = omega arith in
-      made ∙ ap (λ t. t ⊗ t) is ∙ sym (power-add ring laws y (2 ^ k) (2 ^ k)) ∙ ap (λ n. power ring y n) (twice ∙ ap (λ n. 2 ^ n) (sym next))
-
-  pub power-first : (y p : R) → p ≡ y → p ≡ power ring y (2 ^ 0)
-  power-first y p is = is ∙ sym (product_one ring laws y)
-
-  powers_below-twice : (y : R) (m : ℕ) → powers_below ring y (m + m) ≡ powers_below ring y m ++ map (λ w. power ring y m ⊗ w) (powers_below ring y m)
-  unfolding powers_below
-  powers_below-twice y m =
-      let f = power ring y in
-      map_range-add f 0 m m
-      ∙ ap (λ l. map f (range_with_len 0 m) ++ l)
-      (map_from (0 + m) 0 m f (λ x. f m ⊗ f x) (λ k h. simp zero-add (power-add ring laws y m k))
-      ∙ sym (map_twice (λ w. f m ⊗ w) f (λ x. f m ⊗ f x) (λ x. refl) (range_with_len 0 m)))
-
-  pub length-powers_below : (y : R) (n : ℕ) → length (powers_below ring y n) ≡ n
-  unfolding powers_below
-  length-powers_below y n = length-map-range_with_len (power ring y) 0 n
-
-  pub powers_below-one : (y : R) → powers_below ring y (2 ^ 0) ≡ 𝟙 ∷ []
-  unfolding powers_below
-  powers_below-one y = refl
-
-  selects : (c s x : R) → ((𝟙 ⊖ c) ⊗ x) ⊕ (c ⊗ (s ⊗ x)) ≡ (c ⊗ (s ⊖ 𝟙) ⊕ 𝟙) ⊗ x
-  selects c s x = simp (laws.minus_is, laws.product_sum, sum_product ring laws, laws.one_product, product_one ring laws, product_negation ring laws, negation_product ring laws, laws.product_assoc, product_left_comm ring laws, laws.product_comm, laws.sum_assoc, sum_left_comm ring laws, laws.sum_comm)
+use Rattle.mlu_point.proofs.PowerTables.{powers_below-twice, length-powers_below, powers_below-one, selects}
+use Rattle.mlu_point.proofs.Parts.{value-scaled, value-halves, map-scaled}
 
 module _ {B R : Type 0} (base : Ring B) (base_laws : RingLaws base) (ring : Ring R) (laws : RingLaws ring) (e : B → R) (keeps : IsRingMap base ring e) where
   infixl 50 ◌⊕◌
@@ -71,7 +31,7 @@ module _ {B R : Type 0} (base : Ring B) (base_laws : RingLaws base) (ring : Ring
       let less : e (base.minus s base.one) ≡ e s ⊖ 𝟙 = map-minus base base_laws ring laws e keeps s base.one ∙ ap (λ t. e s ⊖ t) keeps.one in
       ap (λ n. value ring (map e (powers_below base v n)) (c ∷ q)) (ap (λ n. 2 ^ n) next ∙ twice)
       ∙ ap (λ l. value ring (map e l) (c ∷ q)) (powers_below-twice base base_laws v m)
-      ∙ ap (λ l. value ring l (c ∷ q)) (map-append e t (map (λ w. base.product s w) t) ∙ ap (λ l. map e t ++ l) (map-scaled base base_laws ring laws e keeps s t))
+      ∙ ap (λ l. value ring l (c ∷ q)) (map-append e t (map (λ w. base.product s w) t) ∙ ap (λ l. map e t ++ l) (map-scaled base ring e keeps s t))
       ∙ value-halves ring laws (map e t) (map (λ w. e s ⊗ w) (map e t)) c q long
       ∙ ap (λ u. ((𝟙 ⊖ c) ⊗ value ring (map e t) q) ⊕ (c ⊗ u)) (value-scaled ring laws (e s) (map e t) q)
       ∙ selects ring laws c (e s) (value ring (map e t) q)

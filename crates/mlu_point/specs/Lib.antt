@@ -1,5 +1,8 @@
+-- The definitions of this crate.
 pub mod Orders
 pub mod Views
+pub mod Vertices
 pub mod Factors
 pub mod Powers
 pub mod Steps
+pub mod Batches

@@ -4,7 +4,7 @@
 //! one share for the lower half of the output and one for the upper half.
 ghost use Rattle.std.specs.Prelude.{◌≡◌, ℕ, ◌<◌, ◌/◌, ◌^◌, ◌++◌, length, map, slice_index_or, replicate, is_ok, IfOk, if◌then◌else◌};
 ghost use Rattle.mlu_ring.specs.Sums.{sum_of};
-ghost use Rattle.mlu_ring.specs.Matrices.{batch, left_by};
+ghost use Rattle.mlu_point.specs.Batches.{with_batch, after_batch, upper_share, lower_share, AreShares};
 
 use mlu_ring::{Additive, ExtensionField, Field, PrimeCharacteristicRing, RowMajorMatrixView};
 use std::alloc::{AllocError, Global};
@@ -16,7 +16,8 @@ use std::alloc::{AllocError, Global};
 /// taken; it becomes zeros, or is left where `INITIALIZED`.
 ///
 /// # Errors
-/// Where memory is refused; the output is as before then.
+/// Where the working space, an element for each scalar and each coordinate, is refused, or that number
+/// does not fit `usize`; the output is as before then.
 pub fn eval_eq_batch<F: Field, EF: ExtensionField<F>, const INITIALIZED: bool>(
     alloc: Global,
     evals: RowMajorMatrixView<'_, EF>,
@@ -25,15 +26,12 @@ pub fn eval_eq_batch<F: Field, EF: ExtensionField<F>, const INITIALIZED: bool>(
 ) -> Result<(), AllocError>
     requires width { evals.width ≡ length scalars.now }
     requires size { 0 < length scalars.now → length out.old ≡ 2 ^ (length evals.values.now / length scalars.now) }
-    ensures { out.new ≡ (if is_ok result then left_by EF.ring INITIALIZED out.old (batch EF.ring evals.entry.values.now scalars.now (length out.old)) else out.old) }
+    ensures { out.new ≡ after_batch EF.ring (is_ok result) INITIALIZED out.old evals.entry.values.now scalars.now }
 {
     evaluate::<EF, EF, ExtFieldEvaluator, INITIALIZED>(alloc, evals, out, scalars)
 }
 
-/// [`eval_eq_batch`] at points whose coordinates lie in the base field.
-///
-/// # Errors
-/// Where memory is refused; the output is as before then.
+/// As [`eval_eq_batch`], at points whose coordinates lie in the base field.
 pub fn eval_eq_base_batch<F: Field, EF: ExtensionField<F>, const INITIALIZED: bool>(
     alloc: Global,
     evals: RowMajorMatrixView<'_, F>,
@@ -42,7 +40,7 @@ pub fn eval_eq_base_batch<F: Field, EF: ExtensionField<F>, const INITIALIZED: bo
 ) -> Result<(), AllocError>
     requires width { evals.width ≡ length scalars.now }
     requires size { 0 < length scalars.now → length out.old ≡ 2 ^ (length evals.values.now / length scalars.now) }
-    ensures { out.new ≡ (if is_ok result then left_by EF.ring INITIALIZED out.old (batch EF.ring (map EF.embed evals.entry.values.now) scalars.now (length out.old)) else out.old) }
+    ensures { out.new ≡ after_batch EF.ring (is_ok result) INITIALIZED out.old (map EF.embed evals.entry.values.now) scalars.now }
 {
     evaluate::<F, EF, BaseFieldEvaluator, INITIALIZED>(alloc, evals, out, scalars)
 }
@@ -93,7 +91,7 @@ fn evaluate<
 ) -> Result<(), AllocError>
     requires width { evals.width ≡ length scalars.now }
     requires size { 0 < length scalars.now → length out.old ≡ 2 ^ (length evals.values.now / length scalars.now) }
-    ensures { out.new ≡ (if is_ok result then left_by S.ring INITIALIZED out.old (batch S.ring (map E.image evals.entry.values.now) scalars.now (length out.old)) else out.old) }
+    ensures { out.new ≡ after_batch S.ring (is_ok result) INITIALIZED out.old (map E.image evals.entry.values.now) scalars.now }
 {
     if scalars.is_empty() {
         if !INITIALIZED {
@@ -103,7 +101,7 @@ fn evaluate<
     }
     let mut working = working_space(alloc, scalars, evals.values.len())?;
     let (shares, space) = working.as_mut_slice().split_at_mut(scalars.len());
-    fill::<C, S, E, INITIALIZED>(evals, shares, space, out);
+    add_tables::<C, S, E, INITIALIZED>(evals, shares, space, out);
     Ok(())
 }
 
@@ -124,7 +122,7 @@ fn working_space<S: PrimeCharacteristicRing>(
 
 /// The plain recursion on the first variable, which writes two disjoint halves of the output. It
 /// uses up the scalars and the working space.
-fn fill<
+fn add_tables<
     C: Additive,
     S: PrimeCharacteristicRing,
     E: EqualityEvaluator<C, S>,
@@ -134,11 +132,10 @@ fn fill<
     requires width { evals.width ≡ length scalars.old }
     requires space { length space.old ≡ length evals.values.now }
     requires size { length out.old ≡ 2 ^ (length evals.values.now / length scalars.old) }
-    ensures { out.new ≡ left_by S.ring INITIALIZED out.old (batch S.ring (map E.image evals.entry.values.now) scalars.old (length out.old)) }
+    ensures { out.new ≡ with_batch S.ring INITIALIZED out.old (map E.image evals.entry.values.now) scalars.old }
 {
     if evals.height() == 0 {
-        let sum = total(scalars);
-        put::<S, INITIALIZED>(&mut out[0], sum);
+        write_or_add::<S, INITIALIZED>(&mut out[0], sum(scalars));
         return;
     }
     let (first, others) = evals.split_rows(1);
@@ -146,8 +143,8 @@ fn fill<
     split_scalars::<C, S, E>(scalars, high_scalars, first.values);
     let half = out.len() / 2;
     let (low, high) = out.split_at_mut(half);
-    fill::<C, S, E, INITIALIZED>(others, high_scalars, space, high);
-    fill::<C, S, E, INITIALIZED>(others, scalars, space, low);
+    add_tables::<C, S, E, INITIALIZED>(others, high_scalars, space, high);
+    add_tables::<C, S, E, INITIALIZED>(others, scalars, space, low);
 }
 
 /// Splits each scalar by a coordinate: its share at 1 goes to `high`, and the rest stays.
@@ -159,8 +156,8 @@ fn split_scalars<C: Additive, S: PrimeCharacteristicRing, E: EqualityEvaluator<C
 )
     requires high { length high.old ≡ length low.old }
     requires coordinates { length coordinates.now ≡ length low.old }
-    ensures upper { (i : ℕ) (d : S) (c : C) → i < length low.old → slice_index_or high.new i d ≡ S.ring.product (slice_index_or low.old i d) (E.image (slice_index_or coordinates.now i c)) }
-    ensures lower { (i : ℕ) (d : S) (c : C) → i < length low.old → slice_index_or low.new i d ≡ S.ring.minus (slice_index_or low.old i d) (S.ring.product (slice_index_or low.old i d) (E.image (slice_index_or coordinates.now i c))) }
+    ensures upper { AreShares (upper_share S.ring E.image) high.new low.old coordinates.now }
+    ensures lower { AreShares (lower_share S.ring E.image) low.new low.old coordinates.now }
 {
     for i in 0..low.len() {
         let share = E::multiply(low[i], coordinates[i]);
@@ -171,7 +168,7 @@ fn split_scalars<C: Additive, S: PrimeCharacteristicRing, E: EqualityEvaluator<C
 
 /// The elements added up.
 #[inline]
-fn total<S: Additive>(xs: &[S]) -> S
+fn sum<S: Additive>(xs: &[S]) -> S
     ensures { result ≡ sum_of S.ring xs.now }
 {
     let mut sum = S::ZERO;
@@ -183,7 +180,7 @@ fn total<S: Additive>(xs: &[S]) -> S
 
 /// Writes the value, or adds it where `INITIALIZED`.
 #[inline]
-fn put<S: Additive, const INITIALIZED: bool>(place: &mut S, value: S)
+fn write_or_add<S: Additive, const INITIALIZED: bool>(place: &mut S, value: S)
     ensures { place.new ≡ (if INITIALIZED then S.ring.sum place.old value else value) }
 {
     *place = if INITIALIZED { *place + value } else { value };

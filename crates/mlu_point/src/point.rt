@@ -9,5 +9,5 @@ mod view;
 
 pub use order::BitOrder;
 pub use owned::Point;
-pub use table::fill as fill_equality_table;
+pub use table::fill_equality_table;
 pub use view::PointView;

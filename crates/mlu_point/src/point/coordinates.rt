@@ -5,7 +5,7 @@ use std::alloc::{AllocError, Global};
 use std::ops::Range;
 
 /// The coordinates from last to first.
-pub fn reversed<F: Copy>(alloc: Global, coords: &[F]) -> Result<Vec<F>, AllocError>
+pub(super) fn reversed<F: Copy>(alloc: Global, coords: &[F]) -> Result<Vec<F>, AllocError>
     ensures { IfOk result (λ last_first. last_first.items ≡ reverse coords.now) }
 {
     let mut last_first = Vec::from_slice(alloc, coords)?;
@@ -13,8 +13,8 @@ pub fn reversed<F: Copy>(alloc: Global, coords: &[F]) -> Result<Vec<F>, AllocErr
     Ok(last_first)
 }
 
-/// The coordinates of a range.
-pub fn subrange<F: Copy>(
+/// The coordinates of a range. Asks that `start <= end <= n`, where there are `n` coordinates.
+pub(super) fn subrange<F: Copy>(
     alloc: Global,
     coords: &[F],
     range: Range<usize>,

@@ -5,7 +5,7 @@ ghost use Rattle.mlu_ring.specs.Matrices.{dimension, transposed};
 ghost use Rattle.mlu_point.specs.Powers.{powers_below};
 ghost use Rattle.mlu_ring.specs.Successor.{next};
 ghost use Rattle.mlu_point.specs.Factors.{eq_factor, power_factor};
-ghost use Rattle.mlu_point.specs.Steps.{carried, stepped, stayed};
+ghost use Rattle.mlu_point.specs.Steps.{carry_of, done_of, last_of};
 
 use super::owned::Point;
 use super::table::bit_at;
@@ -14,7 +14,7 @@ use std::alloc::{AllocError, Global};
 
 impl<F: Field> Point<F> {
     /// The vertex of an index: coordinate `i` is bit `n - 1 - i` of `value`, and missing high bits
-    /// are zero. Asks that `value` is below `2^n` where `n` is below the bits of `usize`.
+    /// are zero. Asks that `value < 2^n` where `n < 64`.
     ///
     /// # Errors
     /// Where memory is refused.
@@ -43,7 +43,7 @@ impl<F: Field> Point<F> {
         Ok(Point::new(coords))
     }
 
-    /// The value at `q` of the equality table of `p`. Asks for equal lengths.
+    /// The value at `q` of the images of the weights of `p`. Asks for equal lengths.
     pub fn eval_eq<EF: ExtensionField<F>>(p: &[F], q: &[EF]) -> EF
         requires { length p.now ≡ length q.now }
         ensures { result ≡ value EF.ring (map EF.embed (weights F.ring p.now)) q.now }
@@ -55,7 +55,7 @@ impl<F: Field> Point<F> {
         product
     }
 
-    /// The value at the point of the table `1, var, var^2, ..` of all powers below `2^n`.
+    /// The value at the point of the images of `1, var, var^2, ..`, the first `2^n` powers of `var`.
     pub fn eval_select<EF: ExtensionField<F>>(var: F, point: &[EF]) -> EF
         ensures { result ≡ value EF.ring (map EF.embed (powers_below F.ring var (2 ^ length point.now))) point.now }
     {
@@ -77,9 +77,9 @@ impl<F: Field> Point<F> {
     /// front of these.
     pub fn eval_next(point: &[F], row: &[F]) -> (F, F, F)
         requires { length point.now ≡ length row.now }
-        ensures carry { result.0 ≡ carried F.ring point.now row.now }
-        ensures done { result.1 ≡ stepped F.ring point.now row.now }
-        ensures last { result.2 ≡ stayed F.ring point.now row.now }
+        ensures carry { result.0 ≡ carry_of F.ring point.now row.now }
+        ensures done { result.1 ≡ done_of F.ring point.now row.now }
+        ensures last { result.2 ≡ last_of F.ring point.now row.now }
         ensures whole { F.ring.sum result.1 result.2 ≡ value F.ring (next F.ring (weights F.ring point.now)) row.now }
     {
         let mut carry = F::ONE;
@@ -103,7 +103,7 @@ impl<F: Field> Point<F> {
     /// where `rev_order`. Asks for one point or more, of equal lengths.
     ///
     /// # Errors
-    /// Where memory is refused.
+    /// Where memory is refused, or the number of values does not fit `usize`.
     pub fn transpose(
         alloc: Global,
         points: &[Self],

@@ -1,3 +1,5 @@
+//! The two orders of a table.
+
 /// Which end of a point reads the lowest bit of a table's index.
 #[derive(Clone, Copy, Debug, PartialEq, Eq)]
 pub enum BitOrder {

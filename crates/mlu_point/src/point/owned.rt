@@ -1,10 +1,12 @@
-ghost use Rattle.std.specs.Prelude.{◌≡◌, ◌^◌, ◌<◌, ◌≤◌, ◌++◌, [], length, take, drop, reverse, slice_index_or, slice_range, is_ok, if◌then◌else◌, IfOk, MatchOption};
+//! Points that own their coordinates.
+ghost use Rattle.std.specs.Prelude.{◌≡◌, ◌^◌, ◌<◌, ◌≤◌, ◌++◌, [], length, take, drop, reverse, slice_index_or, slice_range, is_ok, if◌then◌else◌, IfOk};
 ghost use Rattle.std.specs.declared.alloc.Global.{Global};
 ghost use Rattle.std.specs.Cmp.Lexicographic.{pointwise, lists_per, lists_equiv};
 ghost use Rattle.std.specs.Slice.Iter.{iter_rest, iter_steps};
 ghost use Rattle.std.specs.Vec.Iter.{into_iter_items, into_iter_steps};
-ghost use Rattle.std.specs.Iterator.Runs.{EveryRun, ItemsMapTo, ItemsAre};
-ghost use Rattle.mlu_ring.specs.Tables.{weight, weights, lsb};
+ghost use Rattle.std.specs.Iterator.Runs.{YieldsRefsInOrder, YieldsInOrder};
+ghost use Rattle.mlu_ring.specs.Tables.{weights, lsb};
+ghost use Rattle.mlu_point.specs.Vertices.{IsWeightAt};
 
 use super::view::PointView;
 use mlu_ring::{Field, Sample};
@@ -86,7 +88,7 @@ impl<F: Copy> Point<F> {
     #[inline]
     pub fn iter(&self) -> slice::Iter<'_, F>
         ensures rest { iter_rest result ≡ self.now }
-        ensures runs { EveryRun (iter_steps {A = F}) (λ p. ItemsMapTo p (λ y. y.now) (iter_rest p.from)) }
+        ensures runs { YieldsRefsInOrder (iter_steps {A = F}) iter_rest }
     {
         self.as_slice().iter()
     }
@@ -101,10 +103,7 @@ impl<F: Copy> Point<F> {
         self.coords.extend_from_slice(other.into_slice())
     }
 
-    /// The point of the coordinates in a range. Asks that the range is one of the coordinates.
-    ///
-    /// # Errors
-    /// Where memory is refused.
+    /// As [`PointView::get_subpoint_over_range`].
     pub fn get_subpoint_over_range(
         &self,
         alloc: Global,
@@ -117,20 +116,14 @@ impl<F: Copy> Point<F> {
         self.as_view().get_subpoint_over_range(alloc, range)
     }
 
-    /// The point with the coordinates from last to first.
-    ///
-    /// # Errors
-    /// Where memory is refused.
+    /// As [`PointView::reversed`].
     pub fn reversed(&self, alloc: Global) -> Result<Self, AllocError>
         ensures { IfOk result (λ point. point ≡ reverse self.now) }
     {
         self.as_view().reversed(alloc)
     }
 
-    /// The points of the first `pos` coordinates and of the others. Asks that there are so many.
-    ///
-    /// # Errors
-    /// Where memory is refused.
+    /// As [`PointView::split_at`].
     pub fn split_at(&self, alloc: Global, pos: usize) -> Result<(Self, Self), AllocError>
         requires { pos ≤ length self.now }
         ensures first { IfOk result (λ halves. halves.0 ≡ take pos self.now) }
@@ -141,11 +134,7 @@ impl<F: Copy> Point<F> {
 }
 
 impl<F: Field> Point<F> {
-    /// The weights of all vertices by their indexes: coordinate 0 reads the highest bit. Asks that
-    /// `2^n` fits `usize`.
-    ///
-    /// # Errors
-    /// Where the one growth of exactly `2^n` elements is refused.
+    /// As [`PointView::equality_weights_msb`].
     pub fn equality_weights_msb(&self, alloc: Global) -> Result<Vec<F>, AllocError>
         requires { 2 ^ length self.now < 2 ^ 64 }
         ensures { IfOk result (λ table. table.items ≡ weights F.ring self.now) }
@@ -153,11 +142,7 @@ impl<F: Field> Point<F> {
         self.as_view().equality_weights_msb(alloc)
     }
 
-    /// The weights of all vertices in the order of their reversed index bits: coordinate 0 reads
-    /// the lowest bit. Asks that `2^n` fits `usize`.
-    ///
-    /// # Errors
-    /// Where the one growth of exactly `2^n` elements is refused.
+    /// As [`PointView::equality_weights_lsb`].
     pub fn equality_weights_lsb(&self, alloc: Global) -> Result<Vec<F>, AllocError>
         requires { 2 ^ length self.now < 2 ^ 64 }
         ensures { IfOk result (λ table. table.items ≡ lsb F.ring self.now) }
@@ -165,16 +150,17 @@ impl<F: Field> Point<F> {
         self.as_view().equality_weights_lsb(alloc)
     }
 
-    /// The weight of the vertex, and `None` where it is at least `2^n`.
+    /// As [`PointView::equality_at_vertex`].
     pub fn equality_at_vertex(&self, vertex: usize) -> Option<F>
-        ensures { MatchOption result (2 ^ length self.now ≤ vertex) (λ w. (vertex < 2 ^ length self.now) × (w ≡ weight F.ring self.now vertex)) }
+        ensures { IsWeightAt F.ring self.now vertex result }
     {
         self.as_view().equality_at_vertex(vertex)
     }
 }
 
 impl<F: Sample + Copy + Drop> Point<F> {
-    /// A point of `n` drawn coordinates. Which ones come is not promised.
+    /// A point of `n` drawn coordinates. Which ones come, and where the generator then stands, is not
+    /// promised.
     ///
     /// # Errors
     /// Where memory is refused.
@@ -203,6 +189,7 @@ impl<F: Eq> Eq for Point<F> {
     ghost laws = { lists_equiv F.Eq.laws };
 }
 
+/// The coordinate. Asks that there is one.
 impl<F> Index<usize> for Point<F> {
     type Output = F;
 
@@ -220,7 +207,7 @@ impl<'a, F> IntoIterator for &'a Point<F> {
 
     type IntoIter = slice::Iter<'a, F>;
 
-    ghost into_iter_gives = { λ point r. (iter_rest r ≡ point.now) × EveryRun (iter_steps {A = F}) (λ p. ItemsMapTo p (λ y. y.now) (iter_rest p.from)) };
+    ghost into_iter_gives = { λ point r. (iter_rest r ≡ point.now) × YieldsRefsInOrder (iter_steps {A = F}) iter_rest };
 
     fn into_iter(self) -> slice::Iter<'a, F> {
         self.coords.iter()
@@ -232,7 +219,7 @@ impl<F: Drop> IntoIterator for Point<F> {
 
     type IntoIter = vec::IntoIter<F>;
 
-    ghost into_iter_gives = { λ point r. (into_iter_items r ≡ point) × EveryRun (into_iter_steps {X = F} {Z = Global}) (λ p. ItemsAre p (into_iter_items p.from)) };
+    ghost into_iter_gives = { λ p r. (into_iter_items r ≡ p) × YieldsInOrder (into_iter_steps {X = F} {Z = Global}) into_iter_items };
 
     fn into_iter(self) -> vec::IntoIter<F> {
         self.coords.into_iter()

@@ -1,7 +1,8 @@
-//! Equality tables, doubled in place.
+//! Equality tables, each coordinate split off in place, and the weight of one vertex.
 ghost use Rattle.std.specs.Prelude.{◌≡◌, ◌↔◌, ◌+◌, ◌/◌, ◌%◌, ◌^◌, ◌<◌, ◌≤◌, IsTrue, length, map, IfOk, MatchOption};
-ghost use Rattle.mlu_ring.specs.Tables.{factor, weight};
+ghost use Rattle.mlu_ring.specs.Tables.{factor};
 ghost use Rattle.mlu_point.specs.Orders.{weights_by, with_top};
+ghost use Rattle.mlu_point.specs.Vertices.{IsWeightAt};
 
 use super::order::BitOrder;
 use mlu_ring::PrimeCharacteristicRing;
@@ -9,7 +10,7 @@ use std::alloc::{AllocError, Global};
 
 /// Splits each weight of `low` by a coordinate: its share at 1 goes to `high`, and the rest stays.
 #[inline]
-fn double<R: PrimeCharacteristicRing>(low: &mut [R], high: &mut [R], coordinate: R)
+fn split_by_coordinate<R: PrimeCharacteristicRing>(low: &mut [R], high: &mut [R], coordinate: R)
     requires { length low.old ≡ length high.old }
     ensures upper { high.new ≡ map (λ w. R.ring.product w coordinate) low.old }
     ensures lower { low.new ≡ map (λ w. R.ring.minus w (R.ring.product w coordinate)) low.old }
@@ -32,8 +33,14 @@ fn split_top<R: Copy>(coords: &[R], order: BitOrder) -> Option<(&R, &[R])>
     }
 }
 
-/// Writes the scale times each weight. Asks for room for `2^n` weights.
-pub fn fill<R: PrimeCharacteristicRing>(out: &mut [R], coords: &[R], order: BitOrder, scale: R)
+/// Writes the scale times each weight, in the order. Asks for `2^n` places, where the point has `n`
+/// coordinates.
+pub fn fill_equality_table<R: PrimeCharacteristicRing>(
+    out: &mut [R],
+    coords: &[R],
+    order: BitOrder,
+    scale: R,
+)
     requires { length out.old ≡ 2 ^ length coords.now }
     ensures { out.new ≡ map (λ w. R.ring.product scale w) (weights_by order R.ring coords.now) }
 {
@@ -42,14 +49,15 @@ pub fn fill<R: PrimeCharacteristicRing>(out: &mut [R], coords: &[R], order: BitO
         Some((coordinate, others)) => {
             let half = out.len() / 2;
             let (low, high) = out.split_at_mut(half);
-            fill(low, others, order, scale);
-            double(low, high, *coordinate);
+            fill_equality_table(low, others, order, scale);
+            split_by_coordinate(low, high, *coordinate);
         }
     }
 }
 
-/// The weights of all vertices, in one growth of exactly `2^n` elements.
-pub fn equality_table<R: PrimeCharacteristicRing>(
+/// The weights of all vertices, in the order and in one growth of exactly `2^n` elements. Asks that
+/// `2^n` fits `usize`.
+pub(super) fn equality_table<R: PrimeCharacteristicRing>(
     alloc: Global,
     coords: &[R],
     order: BitOrder,
@@ -58,13 +66,13 @@ pub fn equality_table<R: PrimeCharacteristicRing>(
     ensures { IfOk result (λ table. table.items ≡ weights_by order R.ring coords.now) }
 {
     let mut table = R::zero_vec(alloc, 1 << coords.len())?;
-    fill(table.as_mut_slice(), coords, order, R::ONE);
+    fill_equality_table(table.as_mut_slice(), coords, order, R::ONE);
     Ok(table)
 }
 
-/// The weight of one vertex, and `None` where it is no vertex of the cube.
-pub fn weight_at<R: PrimeCharacteristicRing>(coords: &[R], vertex: usize) -> Option<R>
-    ensures { MatchOption result (2 ^ length coords.now ≤ vertex) (λ w. (vertex < 2 ^ length coords.now) × (w ≡ weight R.ring coords.now vertex)) }
+/// The weight of one vertex, and `None` exactly where it is `2^n` or more.
+pub(super) fn weight_at<R: PrimeCharacteristicRing>(coords: &[R], vertex: usize) -> Option<R>
+    ensures { IsWeightAt R.ring coords.now vertex result }
 {
     if !is_vertex(vertex, coords.len()) {
         return None;
@@ -98,7 +106,7 @@ fn is_vertex(vertex: usize, n: usize) -> bool
 
 /// The bit of a number at a place, which is 0 from place 64 on.
 #[inline]
-pub fn bit_at(number: usize, place: usize) -> usize
+pub(super) fn bit_at(number: usize, place: usize) -> usize
     ensures { result ≡ number / 2 ^ place % 2 }
 {
     if place < usize::BITS as usize {

@@ -1,3 +1,4 @@
+//! Points that borrow their coordinates.
 ghost use Rattle.std.specs.Prelude.{◌≡◌, ⊤, [], ◌<◌, length, slice_index_or};
 
 use super::coordinates::{reversed, subrange};
@@ -15,6 +16,7 @@ pub struct PointView<'a, F> {
     coords: &'a [F],
 }
 
+/// The same view, never an error.
 impl<F> Clone for PointView<'_, F> {
     ghost is_clone = { λ a b. a ≡ b };
 
@@ -27,6 +29,7 @@ impl<F> Clone for PointView<'_, F> {
 
 impl<F> Copy for PointView<'_, F> {}
 
+/// The point of no coordinates.
 impl<F> Default for PointView<'_, F> {
     ghost is_default = { λ view. view.coords.now ≡ [] };
 
@@ -38,7 +41,7 @@ impl<F> Default for PointView<'_, F> {
 impl<'a, F: Copy> PointView<'a, F> {
     ghost use Rattle.std.specs.Prelude.{◌≡◌, ◌≤◌, length, take, drop, reverse, slice_range, IfOk};
     ghost use Rattle.std.specs.Slice.Iter.{iter_rest, iter_steps};
-    ghost use Rattle.std.specs.Iterator.Runs.{EveryRun, ItemsMapTo};
+    ghost use Rattle.std.specs.Iterator.Runs.{YieldsRefsInOrder};
     ghost use Rattle.mlu_point.specs.Views.{coordinates};
 
     /// The point with these coordinates.
@@ -86,12 +89,13 @@ impl<'a, F: Copy> PointView<'a, F> {
     #[inline]
     pub fn iter(&self) -> slice::Iter<'_, F>
         ensures rest { iter_rest result ≡ coordinates self.now }
-        ensures runs { EveryRun (iter_steps {A = F}) (λ p. ItemsMapTo p (λ y. y.now) (iter_rest p.from)) }
+        ensures runs { YieldsRefsInOrder (iter_steps {A = F}) iter_rest }
     {
         self.as_slice().iter()
     }
 
-    /// The point of the coordinates in a range. Asks that the range is one of the coordinates.
+    /// The point of the coordinates in a range. Asks that `start <= end <= n`, where there are `n`
+    /// coordinates.
     ///
     /// # Errors
     /// Where memory is refused.
@@ -117,7 +121,8 @@ impl<'a, F: Copy> PointView<'a, F> {
         Ok(Point::new(reversed(alloc, self.coords)?))
     }
 
-    /// The points of the first `pos` coordinates and of the others. Asks that there are so many.
+    /// The points of the first `pos` coordinates and of the others. Asks that `pos <= n`, where there
+    /// are `n` coordinates.
     ///
     /// # Errors
     /// Where memory is refused.
@@ -134,8 +139,9 @@ impl<'a, F: Copy> PointView<'a, F> {
 }
 
 impl<F: Field> PointView<'_, F> {
-    ghost use Rattle.std.specs.Prelude.{◌≡◌, ◌^◌, ◌<◌, ◌≤◌, length, IfOk, MatchOption};
-    ghost use Rattle.mlu_ring.specs.Tables.{weight, weights, lsb};
+    ghost use Rattle.std.specs.Prelude.{◌≡◌, ◌^◌, ◌<◌, length, IfOk};
+    ghost use Rattle.mlu_ring.specs.Tables.{weights, lsb};
+    ghost use Rattle.mlu_point.specs.Vertices.{IsWeightAt};
     ghost use Rattle.mlu_point.specs.Views.{coordinates};
 
     /// The weights of all vertices by their indexes: coordinate 0 reads the highest bit. Asks that
@@ -162,14 +168,15 @@ impl<F: Field> PointView<'_, F> {
         equality_table(alloc, self.coords, BitOrder::Lsb)
     }
 
-    /// The weight of the vertex, and `None` where it is at least `2^n`.
+    /// The weight of the vertex, and `None` exactly where the vertex is `2^n` or more.
     pub fn equality_at_vertex(&self, vertex: usize) -> Option<F>
-        ensures { MatchOption result (2 ^ length (coordinates self.now) ≤ vertex) (λ w. (vertex < 2 ^ length (coordinates self.now)) × (w ≡ weight F.ring (coordinates self.now) vertex)) }
+        ensures { IsWeightAt F.ring (coordinates self.now) vertex result }
     {
         weight_at(self.coords, vertex)
     }
 }
 
+/// The coordinate. Asks that there is one.
 impl<F> Index<usize> for PointView<'_, F> {
     type Output = F;
 
@@ -185,13 +192,13 @@ impl<F> Index<usize> for PointView<'_, F> {
 impl<'a, F> IntoIterator for &'a PointView<'_, F> {
     ghost use Rattle.std.specs.Prelude.{◌≡◌};
     ghost use Rattle.std.specs.Slice.Iter.{iter_rest, iter_steps};
-    ghost use Rattle.std.specs.Iterator.Runs.{EveryRun, ItemsMapTo};
+    ghost use Rattle.std.specs.Iterator.Runs.{YieldsRefsInOrder};
 
     type Item = &'a F;
 
     type IntoIter = slice::Iter<'a, F>;
 
-    ghost into_iter_gives = { λ view r. (iter_rest r ≡ view.now.coords.now) × EveryRun (iter_steps {A = F}) (λ p. ItemsMapTo p (λ y. y.now) (iter_rest p.from)) };
+    ghost into_iter_gives = { λ view r. (iter_rest r ≡ view.now.coords.now) × YieldsRefsInOrder (iter_steps {A = F}) iter_rest };
 
     fn into_iter(self) -> slice::Iter<'a, F> {
         self.coords.iter()

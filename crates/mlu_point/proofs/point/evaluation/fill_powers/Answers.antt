@@ -1,7 +1,7 @@
 use Rattle.std.proofs.Common.{length, refl, ap, ◌∙◌, arith}
 use Rattle.mlu_ring.specs.Tables.{powers}
 use Rattle.mlu_point.proofs.Expansion.{holds-none, holds-write, holds-all}
-use Rattle.mlu_point.proofs.Selection.{power-first, power-doubled}
+use Rattle.mlu_point.proofs.PowerTables.{power-first, power-doubled}
 use Rattle.mlu_point.proofs.point.evaluation.fill_powers.Goals as goal
 
 pub loop-k-init : goal.loop-k-init

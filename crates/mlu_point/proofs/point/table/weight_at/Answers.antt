@@ -1,6 +1,6 @@
 use Rattle.std.proofs.Common.{rules, ap, ◌∙◌}
 use Rattle.mlu_ring.specs.Tables.{factor}
-use Rattle.mlu_point.proofs.Tables.{weight-start, weight-step, weight-end}
+use Rattle.mlu_point.proofs.Weights.{weight-start, weight-step, weight-end}
 use Rattle.mlu_point.proofs.point.table.weight_at.Goals as goal
 
 pub loop-k-init : goal.loop-k-init

@@ -1,6 +1,6 @@
 use Rattle.std.proofs.Common.{◌∙◌, ap}
-use Rattle.mlu_point.specs.Steps.{carried, stepped, stayed}
-use Rattle.mlu_point.proofs.Steps.{carried-none, stepped-none, stayed-none, carried-more, stepped-more, stayed-more, tails-all, steps-value}
+use Rattle.mlu_point.specs.Steps.{carry_of, done_of, last_of}
+use Rattle.mlu_point.proofs.Steps.{carry_of-none, done_of-none, last_of-none, carry_of-more, done_of-more, last_of-more, tails-all, steps-value}
 use Rattle.mlu_point.proofs.point.owned.Point.eval_next.Goals as goal
 
 pub loop-k-init : goal.loop-k-init
@@ -8,9 +8,9 @@ loop-k-init g c =
     let ring = g.F.Additive.ring in
     let laws = g.met.F.Additive.laws in
     record {
-      carry = carried-none ring laws c.args.point.now c.args.row.now c.ONE-carry.result (c.ONE-carry.ensures ∙ g.met.F.Additive.one_is);
-      done = stepped-none ring laws c.args.point.now c.args.row.now c.ZERO-done.result (c.ZERO-done.ensures ∙ g.met.F.Additive.zero_is);
-      last = stayed-none ring laws c.args.point.now c.args.row.now c.ONE-last.result (c.ONE-last.ensures ∙ g.met.F.Additive.one_is);
+      carry = carry_of-none ring laws c.args.point.now c.args.row.now c.ONE-carry.result (c.ONE-carry.ensures ∙ g.met.F.Additive.one_is);
+      done = done_of-none ring laws c.args.point.now c.args.row.now c.ZERO-done.result (c.ZERO-done.ensures ∙ g.met.F.Additive.zero_is);
+      last = last_of-none ring laws c.args.point.now c.args.row.now c.ONE-last.result (c.ONE-last.ensures ∙ g.met.F.Additive.one_is);
     }
 
 pub loop-k-preserved : goal.loop-k-preserved
@@ -37,9 +37,9 @@ loop-k-preserved g c =
     let last = times c.loop-k.last c.mul-both.result c.mul-last.result c.mul-last.ensures in
     let before = c.loop-k.invariant in
     record {
-      carry = carried-more ring laws p r c.loop-k.k from to c.mul-both.result c.sub-leaves.result c.loop-k.carry c.mul-carry.result within same c.index-point-coordinate.is c.index-row-coordinate.is both leaves before.carry carry;
-      done = stepped-more ring laws p r c.loop-k.k from to c.mul-both.result c.sub-leaves.result c.sub-settles.result c.loop-k.carry c.loop-k.done c.add-done.result within same c.index-point-coordinate.is c.index-row-coordinate.is both leaves settles before.carry before.done done;
-      last = stayed-more ring laws p r c.loop-k.k from to c.mul-both.result c.loop-k.last c.mul-last.result within same c.index-point-coordinate.is c.index-row-coordinate.is both before.last last;
+      carry = carry_of-more ring laws p r c.loop-k.k from to c.mul-both.result c.sub-leaves.result c.sub-settles.result within same c.index-point-coordinate.is c.index-row-coordinate.is both leaves settles c.loop-k.carry c.mul-carry.result before.carry carry;
+      done = done_of-more ring laws p r c.loop-k.k from to c.mul-both.result c.sub-leaves.result c.sub-settles.result within same c.index-point-coordinate.is c.index-row-coordinate.is both leaves settles c.loop-k.carry c.loop-k.done c.add-done.result before.carry before.done done;
+      last = last_of-more ring laws p r c.loop-k.k from to c.mul-both.result c.sub-leaves.result c.sub-settles.result within same c.index-point-coordinate.is c.index-row-coordinate.is both leaves settles c.loop-k.last c.mul-last.result before.last last;
     }
 
 pub returns : goal.returns
@@ -50,10 +50,10 @@ returns g c =
     let r = c.args.row.now in
     let all = c.loop-k-test.false in
     let before = c.loop-k.invariant in
-    let done = before.done ∙ tails-all ring laws (stepped ring) p r c.loop-k.k all c.requires in
-    let last = before.last ∙ tails-all ring laws (stayed ring) p r c.loop-k.k all c.requires in
+    let done = before.done ∙ tails-all ring laws (done_of ring) p r c.loop-k.k all c.requires in
+    let last = before.last ∙ tails-all ring laws (last_of ring) p r c.loop-k.k all c.requires in
     record {
-      carry = before.carry ∙ tails-all ring laws (carried ring) p r c.loop-k.k all c.requires;
+      carry = before.carry ∙ tails-all ring laws (carry_of ring) p r c.loop-k.k all c.requires;
       done = done;
       last = last;
       whole = steps-value ring laws p r c.loop-k.done c.loop-k.last c.requires done last;

@@ -1,5 +1,6 @@
 use Rattle.std.proofs.Common.{◌≡◌, length, refl, ap, ◌∙◌, arith}
-use Rattle.mlu_point.proofs.Selection.{power-first, power-doubled, select-start, select-step, select-end}
+use Rattle.mlu_point.proofs.PowerTables.{power-first, power-doubled}
+use Rattle.mlu_point.proofs.Selection.{select-start, select-step, select-end}
 use Rattle.mlu_point.proofs.point.owned.Point.eval_select.Goals as goal
 
 pub loop-k-init : goal.loop-k-init

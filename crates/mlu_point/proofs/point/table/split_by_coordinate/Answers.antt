@@ -1,6 +1,6 @@
 use Rattle.std.proofs.Common.{arith}
 use Rattle.mlu_ring.proofs.Doubling.{map_by_index}
-use Rattle.mlu_point.proofs.point.table.double.Goals as goal
+use Rattle.mlu_point.proofs.point.table.split_by_coordinate.Goals as goal
 
 pub returns-clause-upper : goal.returns-clause-upper
 returns-clause-upper g c = map_by_index _ c.args.low.now c.loop-i.high (omega arith) (λ k d h. c.loop-i.invariant.upper k d (omega arith))

@@ -1,0 +1,26 @@
+-- What a table leaves in an output.
+use Rattle.std.proofs.Common.{◌≡◌, ℕ, zero, suc, ◌≤◌, Bool, true, false, List, [], ◌∷◌, ◌++◌, length, get_or, take, drop, set, refl, ap, ◌∙◌, arith}
+use Rattle.std.specs.Prelude.{if◌then◌else◌}
+use Rattle.std.specs.Simd.Lanes.{zip2}
+use Rattle.mlu_ring.specs.Ring.{Ring}
+use Rattle.mlu_ring.specs.Matrices.{left_by}
+
+-- what is written in two halves
+pub zip-append : {A B : Type 0} (f : A → B → A) (m : ℕ) (old : List A) (a b : List B) → length a ≡ m → m ≤ length old → zip2 f (take m old) a ++ zip2 f (drop m old) b ≡ zip2 f old (a ++ b)
+zip-append f zero old [] b h k = refl
+zip-append f zero old (y ∷ a) b h k = absurd (omega arith)
+zip-append f (suc m) [] a b h k = absurd (omega arith)
+zip-append f (suc m) (x ∷ old) [] b h k = absurd (omega arith)
+zip-append f (suc m) (x ∷ old) (y ∷ a) b h k = ap (λ l. f x y ∷ l) (zip-append f m old a b (omega arith) (omega arith))
+
+module _ {R : Type 0} (ring : Ring R) where
+  pub left-append : (adds : Bool) (m : ℕ) (old a b : List R) → length a ≡ m → m ≤ length old → left_by ring adds (take m old) a ++ left_by ring adds (drop m old) b ≡ left_by ring adds old (a ++ b)
+  left-append true m old a b h k = zip-append ring.sum m old a b h k
+  left-append false m old a b h k = refl
+
+  -- one entry written
+  pub left-one : (adds : Bool) (out : List R) (o t r : R) → length out ≡ 1 → o ≡ get_or out 0 o → r ≡ (if adds then ring.sum o t else t) → set out 0 r ≡ left_by ring adds out (t ∷ [])
+  left-one adds [] o t r h at is = absurd (omega arith)
+  left-one true (x ∷ []) o t r h at is = ap (λ y. y ∷ []) (is ∙ ap (λ z. ring.sum z t) at)
+  left-one false (x ∷ []) o t r h at is = ap (λ y. y ∷ []) is
+  left-one adds (x ∷ y ∷ more) o t r h at is = absurd (omega arith)
