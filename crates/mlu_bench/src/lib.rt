@@ -10,7 +10,7 @@ mod calls;
 use crate::calls::{Case, repeat_batch, repeat_call, repeat_split};
 use mlu_ext::QuarticExtension;
 use mlu_lanes::{BabyBear, Lanes};
-use mlu_ring::each::{multiply_each, sub_each};
+use mlu_ring::place_by_place::{multiply_each, sub_each};
 use mlu_ring::{Additive, PackedValue, PrimeCharacteristicRing};
 use multilinear_util::point::Point;
 use multilinear_util::poly::Poly;

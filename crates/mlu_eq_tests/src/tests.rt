@@ -1,12 +1,14 @@
-//! Worked rows, and drawn tables against the plain sums, over any rings.
+//! Worked rows, and drawn tables against the plain sums, over any rings; and what `{:?}` prints.
 ghost use Rattle.std.specs.Prelude.{◌<◌};
 
+mod compressions;
 mod folds;
 mod halves;
+mod images;
 mod kernels;
-mod others;
 mod shifted;
 mod sums;
+mod texts;
 mod values;
 
 use mlu_ext::QuarticExtension;
@@ -54,7 +56,7 @@ fn holds<F: Field + Sample, EF: ExtensionField<F> + Sample>(
     }
 }
 
-// The functions below, and two of `others`, alone name the rings: each function that does costs
+// The functions below, and two of `images`, alone name the rings: each function that does costs
 // seconds for every impl that the rings stand on, and a call of these costs nothing of it.
 
 /// [`holds`] over the residues modulo a prime.
@@ -151,7 +153,7 @@ fn half_tables(rt: HostRuntime) -> Result<(), Fail> {
 
 #[test]
 fn images_in_other_rings(rt: HostRuntime) -> Result<(), Fail> {
-    assert!(rt; others::residues_in_words(rt.alloc())?);
-    assert!(rt; others::residues_in_quartics(rt.alloc())?);
+    assert!(rt; images::residues_in_words(rt.alloc())?);
+    assert!(rt; images::residues_in_quartics(rt.alloc())?);
     Ok(())
 }

@@ -1,7 +1,8 @@
-//! Worked values, and a call of each item through its bound.
+//! Worked values, a call of each item through its bound, and what `{:?}` prints.
 mod bounds;
 mod products;
 mod rows;
+mod texts;
 
 use mlu_ext::{ProductAlgebra, QuarticExtension};
 use mlu_lanes::BabyBear;
@@ -10,9 +11,9 @@ type Bear = BabyBear<4>;
 
 type Quartic = QuarticExtension<Bear>;
 
-type Half = BabyBear<2>;
+type NarrowBear = BabyBear<2>;
 
-type Pair = ProductAlgebra<Half, 2>;
+type Pair = ProductAlgebra<NarrowBear, 2>;
 
 fn quartic(c0: u32, c1: u32, c2: u32, c3: u32) -> Quartic {
     QuarticExtension::new(
@@ -24,5 +25,5 @@ fn quartic(c0: u32, c1: u32, c2: u32, c3: u32) -> Quartic {
 }
 
 fn pair(first: u32, second: u32) -> Pair {
-    ProductAlgebra::from_array([Half::from_u32(first), Half::from_u32(second)])
+    ProductAlgebra::from_array([NarrowBear::from_u32(first), NarrowBear::from_u32(second)])
 }

@@ -1,10 +1,11 @@
 //! Worked rows, and drawn tables against the plain sums.
 ghost use Rattle.std.specs.Prelude.{◌≡◌, ◌<◌, ◌*◌, IfOk, length};
 
-use mlu_ext::QuarticExtension;
+use mlu_ext::{ProductAlgebra, QuarticExtension};
+use mlu_kernel::one_row::{lane_sum, row_dot_in_lanes};
 use mlu_kernel::{
     compress_hi_dot_packed, compress_hi_dot_packed_eager, compress_prefix_to_packed_packed,
-    compress_prefix_to_packed_packed_kernel_eager, lane_total, packed_dot,
+    compress_prefix_to_packed_packed_kernel_eager,
 };
 use mlu_lanes::{BabyBear, LaneWidth, Lanes};
 use mlu_ring::{Additive, Algebra, ExtensionField, Field, Lanewise, PackedValue, Sample};
@@ -41,7 +42,7 @@ fn holds<F: Field + Sample, EF: ExtensionField<F> + Sample>(
     }
 }
 
-// The two functions below alone name the rings: each function that does costs seconds for every
+// The functions below alone name the rings: each function that does costs seconds for every
 // impl that the rings stand on, and a call of these costs nothing of it.
 
 /// [`holds`] over the base field.
@@ -62,6 +63,20 @@ where
     holds::<BabyBear<W>, QuarticExtension<BabyBear<W>>>(alloc, row)
 }
 
+/// [`holds`] over an extension of residues. The bound names its field, since at products a call with
+/// two types as parameters is more than the prover takes.
+fn over_residues<EF: ExtensionField<BabyBear<4>> + Sample>(
+    alloc: Global,
+    row: Row,
+) -> Result<bool, AllocError> {
+    holds::<BabyBear<4>, EF>(alloc, row)
+}
+
+/// [`holds`] over products of nine copies.
+fn nine_copies(alloc: Global, row: Row) -> Result<bool, AllocError> {
+    over_residues::<ProductAlgebra<BabyBear<4>, 9>>(alloc, row)
+}
+
 #[test]
 fn worked_dots(rt: HostRuntime) -> Result<(), Fail> {
     assert!(rt; residues::<4>(rt.alloc(), Row::TwoRows)?);
@@ -70,6 +85,7 @@ fn worked_dots(rt: HostRuntime) -> Result<(), Fail> {
     assert!(rt; quartics::<4>(rt.alloc(), Row::OneRow)?);
     assert!(rt; residues::<4>(rt.alloc(), Row::NoRow)?);
     assert!(rt; quartics::<4>(rt.alloc(), Row::NoRow)?);
+    assert!(rt; nine_copies(rt.alloc(), Row::NoRow)?);
     Ok(())
 }
 
@@ -147,7 +163,7 @@ fn lanes_of_one_row<F: Field, EF: ExtensionField<F>>(alloc: Global) -> Result<bo
     }
     let eq1 = packed::<F, EF>(alloc, &elements(alloc, &[1, 2, 3, 4])?, 1)?;
     let row = elements(alloc, &[5, 6, 7, 8])?;
-    Ok(lane_total::<F, EF>(packed_dot::<F, EF>(&eq1, &row)) == element(70))
+    Ok(lane_sum::<F, EF>(row_dot_in_lanes::<F, EF>(&eq1, &row)) == element(70))
 }
 
 /// Whether four rows of four lanes, each times two, are added up.
@@ -165,7 +181,7 @@ fn four_rows_added<F: Field, EF: ExtensionField<F>>(alloc: Global) -> Result<boo
     rows_added_are::<F, EF>(alloc, &out, &eq1, &chunk, EF::TWO, &expected)
 }
 
-/// Whether the dot with no weights in the rows is zero.
+/// Whether the dot with two rows of no weights is zero.
 fn dot_of_no_row<F: Field, EF: ExtensionField<F>>(alloc: Global) -> Result<bool, AllocError> {
     let eq0 = elements(alloc, &[0, 0])?;
     Ok(dots_are::<F, EF>(&[], &[], &eq0, EF::ZERO))

@@ -1,3 +1,4 @@
-//! Worked values, and one call of each item through its bound.
+//! Worked values, one call of each item through its bound, and what `{:?}` prints.
 mod bounds;
 mod rows;
+mod texts;

@@ -1,4 +1,5 @@
-//! Worked rows at each field, and tables, values and batches at drawn points against plain sums.
+//! Worked rows at each field, tables, values and batches at drawn points against plain sums, and
+//! what `{:?}` prints.
 //!
 //! A row is a function over any rings that gives whether it holds, reached by its name in [`Row`] or
 //! [`FieldRow`].
@@ -8,6 +9,7 @@ mod batches;
 mod evaluations;
 mod points;
 mod tables;
+mod texts;
 
 use mlu_ext::{ProductAlgebra, QuarticExtension};
 use mlu_lanes::{BabyBear, LaneWidth, Lanes, WrappingU64};
@@ -41,6 +43,7 @@ enum Row {
     Batches,
     BaseBatches,
     NoPoints,
+    NoCoordinates,
     DrawnValues(usize),
     DrawnBatches(usize, usize),
     DrawnBaseBatches(usize, usize),
@@ -75,6 +78,7 @@ fn holds<F: Field + Sample, EF: ExtensionField<F> + Sample>(
         Row::Batches => batches::rows::<F, EF>(alloc),
         Row::BaseBatches => batches::rows_of_the_base::<F, EF>(alloc),
         Row::NoPoints => batches::without_points::<F, EF>(alloc),
+        Row::NoCoordinates => batches::without_coordinates::<F, EF>(alloc),
         Row::DrawnValues(n) => evaluations::drawn_values::<F, EF>(alloc, n),
         Row::DrawnBatches(n, points) => batches::draws::<F, EF>(alloc, n, points),
         Row::DrawnBaseBatches(n, points) => batches::draws_of_the_base::<F, EF>(alloc, n, points),
@@ -265,6 +269,12 @@ fn batches_of_points_of_the_base(rt: HostRuntime) -> Result<(), Fail> {
 #[test]
 fn batches_of_no_points(rt: HostRuntime) -> Result<(), Fail> {
     assert!(rt; everywhere(rt.alloc(), Row::NoPoints)?);
+    Ok(())
+}
+
+#[test]
+fn batches_of_points_without_coordinates(rt: HostRuntime) -> Result<(), Fail> {
+    assert!(rt; everywhere(rt.alloc(), Row::NoCoordinates)?);
     Ok(())
 }
 

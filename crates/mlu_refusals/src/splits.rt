@@ -24,7 +24,7 @@ fn split<F: Field, EF: ExtensionField<F>>(
     point: &Point<EF>,
 ) -> Result<SplitEq<F, EF>, AllocError>
     requires { length point.now ≡ 3 }
-    ensures { IfOk result (λ split. length (split_entries EF.ring EF.ExtensionPacking.ext_lanes split) ≡ 8) }
+    ensures { IfOk result (λ split. length (split_entries EF.ring split) ≡ 8) }
 {
     SplitEq::new_unpacked(alloc, point, EF::ONE)
 }
@@ -35,7 +35,7 @@ fn has_entries<F: Field, EF: ExtensionField<F>>(
     zeros: &mut [EF],
     entries: &[EF],
 ) -> bool
-    requires { length zeros.old ≡ length (split_entries EF.ring EF.ExtensionPacking.ext_lanes split.now) }
+    requires { length zeros.old ≡ length (split_entries EF.ring split.now) }
 {
     split.accumulate_into(zeros, None);
     *zeros == *entries

@@ -1,7 +1,7 @@
 -- How many cases there are, and what the program says of all of them.
 use Rattle.std.specs.Prelude.{◌≡◌, ◌≢◌, ℕ, ◌+◌, List, [], ◌∷◌, ◌++◌, ◌==◌, if◌then◌else◌, ◌⊎◌, None, IsUtf8, codes, decimal}
-use Rattle.mlu_cases.specs.declared.fault.Reason.{Reason}
-use Rattle.mlu_cases.specs.declared.fault.Reason.TheVariants.{Text, Equals}
+use Rattle.mlu_replay_calls.specs.declared.fault.Reason.{Reason}
+use Rattle.mlu_replay_calls.specs.declared.fault.Reason.TheVariants.{Text, Equals}
 use Rattle.mlu_replay.specs.declared.stop.Stop.{Stop}
 use Rattle.mlu_replay.specs.declared.stop.Stop.TheVariants.{Read, Memory, Write}
 use Rattle.std.specs.Str.Pattern.{FindsText}

@@ -4,12 +4,12 @@ ghost use Rattle.std.specs.Io.KnownBytes.{Appends, IsAtEnd};
 ghost use Rattle.std.specs.IoError.{error_kind};
 ghost use Rattle.std.specs.Io.BufRead.{DropsThrough, first_piece};
 ghost use Rattle.mlu_replay.specs.Counts.{Grows, GrowsTo, IsGiven, IsNoCase, IsUnknown, count_line, differ_line, unknown_line, line_count};
-ghost use Rattle.mlu_cases.specs.Faults.{reason_text};
-ghost use Rattle.mlu_cases.specs.Words.{first_word};
+ghost use Rattle.mlu_replay_calls.specs.Faults.{reason_text};
+ghost use Rattle.mlu_replay_calls.specs.Words.{first_word};
 
 use crate::stop::Stop;
-use mlu_cases::fault::{Fault, Reason};
-use mlu_rings::answer;
+use mlu_replay_calls::fault::{Fault, Reason};
+use mlu_replay_rings::answer;
 use std::alloc::Global;
 use std::io::{self, BufRead, ErrorKind, Write};
 use std::str;
@@ -23,7 +23,7 @@ pub struct Tally {
 }
 
 impl Tally {
-    /// The status that the program ends with: 0 where all answers are the same.
+    /// The status that the program ends with: 0 exactly where no case differs and no line is unknown.
     pub fn status(self) -> u8
         ensures { (result ≡ 0) ↔ ((self.differ ≡ 0) × (self.unknown ≡ 0)) }
     {
@@ -36,7 +36,7 @@ impl Tally {
 }
 
 /// Answers each line of the input, writes a line for each that differs or is unknown, and then the
-/// count.
+/// count. Where the bytes of the input are known, as many lines are compared or unknown as it has.
 ///
 /// # Errors
 /// Where the input can't be read, or has 2^64 lines; where a write fails, or memory is refused.
@@ -61,8 +61,8 @@ pub fn replay<R: BufRead, W: Write>(
     Err(Stop::Read)
 }
 
-/// Reads a line in place of what stands in `line`, without its line feed. Answers false at the end
-/// of the input.
+/// Reads a line in place of what stands in `line`, without its line feed, or the bytes that are left.
+/// Answers false at the end of the input.
 fn next_line<R: BufRead>(input: &mut R, line: &mut Vec<u8>) -> Result<bool, Stop>
     ensures line { OnOk result (IfSome (R.remaining input.old) (λ bytes. line.new.items ≡ first_piece 10 bytes)) }
     ensures rest { OnOk result (DropsThrough (R.remaining input.old) (R.remaining input.new) 10) }
@@ -97,6 +97,10 @@ struct Case<'a> {
 }
 
 impl<'a> Case<'a> {
+    /// What the line asks, and after ` = ` what it gives.
+    ///
+    /// # Errors
+    /// Where it is no UTF-8 text, or has no ` = `.
     fn read(line: &'a [u8]) -> Result<Self, Reason>
         ensures case { IfOk result (λ case. line.now ≡ case.asked.now ++ (codes " = " ++ case.given.now)) }
         ensures none { IfErr result (λ reason. IsNoCase line.now reason) }

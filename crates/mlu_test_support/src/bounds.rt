@@ -1,6 +1,7 @@
 //! A call of each item of a trait through its bound.
-ghost use Rattle.std.specs.Prelude.{◌≡◌, ◌<◌, IfOk, length, vec_len};
+ghost use Rattle.std.specs.Prelude.{◌≡◌, ◌<◌, length};
 
+use crate::lists::{filled, pair};
 use crate::numbers::are;
 use mlu_ring::{
     Additive, Algebra, ExtensionField, Field, Lanewise, MapFrom, PackedFieldExtension, PackedValue,
@@ -58,15 +59,6 @@ pub fn doubles_and_adds<F: Lanewise>(a: F, b: F, sum: F) -> bool {
     (a + a + F::Packing::splat(b)).lane(0) == sum
 }
 
-/// `n` times the value.
-pub fn filled<T: Additive>(alloc: Global, value: T, n: usize) -> Result<Vec<T>, AllocError>
-    ensures { IfOk result (λ values. vec_len values ≡ n) }
-{
-    let mut values = Vec::with_capacity(alloc, n)?;
-    values.resize(n, value)?;
-    Ok(values)
-}
-
 /// 10 a b, where each of `l` is a and each of `r` and `c` is b.
 fn tenfold<F: Field>(l: &[F::Packing], r: &[F::Packing], c: &[F]) -> F::Packing
     requires left { length l.now ≡ 4 }
@@ -78,11 +70,21 @@ fn tenfold<F: Field>(l: &[F::Packing], r: &[F::Packing], c: &[F]) -> F::Packing
 }
 
 /// 10 a b, by each product of a field.
-pub fn packed_products<F: Field>(alloc: Global, a: F, b: F) -> Result<F::Packing, AllocError> {
+fn packed_products<F: Field>(alloc: Global, a: F, b: F) -> Result<F::Packing, AllocError> {
     let left = filled(alloc, F::Packing::splat(a), 4)?;
     let right = filled(alloc, F::Packing::splat(b), 4)?;
     let scalars = filled(alloc, b, 4)?;
     Ok(tenfold::<F>(left.as_slice(), right.as_slice(), scalars.as_slice()))
+}
+
+/// Whether 10 a b, by each product of a field, is the answer in every lane.
+pub fn multiplies_lanes<F: Field>(
+    alloc: Global,
+    a: F,
+    b: F,
+    answer: F,
+) -> Result<bool, AllocError> {
+    Ok(packed_products(alloc, a, b)? == F::Packing::splat(answer))
 }
 
 /// Whether the first of the coefficients `c` is `twice` once it is doubled.
@@ -140,4 +142,17 @@ pub fn sum_of_lanes<F: Field, EF: ExtensionField<F>>(packed: &[EF::ExtensionPack
         sum = sum + element;
     }
     sum
+}
+
+/// Whether the lanes of two packed values, each with the same element in every lane, have this sum.
+pub fn adds_lanes<F: Field, EF: ExtensionField<F>>(
+    alloc: Global,
+    first: EF,
+    second: EF,
+    sum: EF,
+) -> Result<bool, AllocError> {
+    let first = EF::ExtensionPacking::from_base(first);
+    let second = EF::ExtensionPacking::from_base(second);
+    let packed = pair(alloc, first, second)?;
+    Ok(sum_of_lanes::<F, EF>(packed.as_slice()) == sum)
 }

@@ -1,7 +1,6 @@
 //! Worked rows of folds.
 ghost use Rattle.std.specs.Prelude.{◌≡◌, IfOk, length};
 
-use super::values::with_coefficients;
 use mlu_eq::{
     fold_monomial_in_place, fold_prefix, fold_prefix_at, fold_prefix_in_place,
     fold_prefix_to_packed, fold_suffix, fold_suffix_by_base, fold_suffix_in_place,
@@ -11,7 +10,7 @@ use mlu_ring::{
     Additive, Algebra, ExtensionField, Field, Lanewise, PackedValue, PrimeCharacteristicRing,
 };
 use mlu_test_support::lanes::lanes;
-use mlu_test_support::numbers::{element, elements};
+use mlu_test_support::numbers::{element, elements, with_coefficients};
 use std::alloc::{AllocError, Global};
 
 /// The folds of a table where it lies.

@@ -1,10 +1,9 @@
 //! Drawn half tables, as scalars and packed, against the whole split table.
 ghost use Rattle.std.specs.Prelude.{◌≡◌, ◌*◌, ◌<◌, IfOk, IfSome, IsTrue, length};
 ghost use Rattle.std.specs.Int.{is_power_of_two};
-ghost use Rattle.mlu_eq.specs.Weights.{weights_of};
 
 use super::{kernels, shifted};
-use mlu_eq::EqMaybePacked;
+use mlu_eq::{EqMaybePacked, half};
 use mlu_ring::{ExtensionField, Field, Lanewise, PackedValue, Sample, log2_strict_usize};
 use mlu_test_support::draws::drawn;
 use mlu_test_support::lanes::packed;
@@ -32,9 +31,9 @@ pub fn scalar_half<F: Field, EF: ExtensionField<F>>(
     weights: &[EF],
 ) -> Result<EqMaybePacked<F, EF>, AllocError>
     requires { IsTrue (is_power_of_two (length weights.now)) }
-    ensures { IfOk result (λ half. length (weights_of EF.ExtensionPacking.ext_lanes half) ≡ length weights.now) }
+    ensures { IfOk result (λ half. length half.weights ≡ length weights.now) }
 {
-    Ok(EqMaybePacked::from_scalars(Vec::from_slice(alloc, weights)?))
+    Ok(half::from_scalars(Vec::from_slice(alloc, weights)?))
 }
 
 /// The packed table of these weights, where they fill packings.
@@ -42,14 +41,14 @@ pub fn packed_half<F: Field, EF: ExtensionField<F>>(
     alloc: Global,
     weights: &[EF],
 ) -> Result<Option<EqMaybePacked<F, EF>>, AllocError>
-    ensures { IfOk result (λ half. IfSome half (λ table. length (weights_of EF.ExtensionPacking.ext_lanes table) ≡ length weights.now)) }
+    ensures { IfOk result (λ half. IfSome half (λ table. length table.weights ≡ length weights.now)) }
 {
     let groups = weights.len() / F::Packing::WIDTH;
     if groups * F::Packing::WIDTH != weights.len() || !groups.is_power_of_two() {
         return Ok(None);
     }
     let packed = packed::<F, EF>(alloc, weights, groups)?;
-    Ok(Some(EqMaybePacked::from_packed(packed)))
+    Ok(Some(half::from_packed(packed)))
 }
 
 /// Whether the table says of itself that it has `n` weights, and whether they are packed.
@@ -58,7 +57,7 @@ fn describes_itself<F: Field, EF: ExtensionField<F>>(
     n: usize,
     packed: bool,
 ) -> bool
-    requires size { length (weights_of EF.ExtensionPacking.ext_lanes eq1.now) ≡ n }
+    requires size { length eq1.now.weights ≡ n }
     requires power { IsTrue (is_power_of_two n) }
 {
     eq1.num_scalar_evals() == n
@@ -74,7 +73,7 @@ fn rows_agree<F: Field + Sample, EF: ExtensionField<F> + Sample>(
     weights: &[EF],
     rows: usize,
 ) -> Result<bool, AllocError>
-    requires same { length weights.now ≡ length (weights_of EF.ExtensionPacking.ext_lanes eq1.now) }
+    requires same { length weights.now ≡ length eq1.now.weights }
     requires small { length weights.now < 32 }
     requires rows { rows < 8 }
     requires lanes { F.Packing.WIDTH < 32 }
@@ -95,7 +94,7 @@ fn table_agrees<F: Field + Sample, EF: ExtensionField<F> + Sample>(
     eq1: &EqMaybePacked<F, EF>,
     weights: &[EF],
 ) -> Result<bool, AllocError>
-    requires same { length weights.now ≡ length (weights_of EF.ExtensionPacking.ext_lanes eq1.now) }
+    requires same { length weights.now ≡ length eq1.now.weights }
     requires small { length weights.now < 32 }
     requires lanes { F.Packing.WIDTH < 32 }
 {

@@ -1,11 +1,10 @@
 //! The steps to the next row of a half table, and the sums with the whole table moved up by one
 //! place.
 ghost use Rattle.std.specs.Prelude.{◌≡◌, ◌*◌, ◌<◌, length};
-ghost use Rattle.mlu_eq.specs.Weights.{weights_of};
 
+use super::compressions::{Form, prefixes_agree, suffixes_agree};
 use super::halves::scalar_half;
-use super::kernels::{row_dots, with_rows};
-use mlu_eq::EqMaybePacked;
+use mlu_eq::{EqMaybePacked, split};
 use mlu_ring::{ExtensionField, Field, PrimeCharacteristicRing, Sample};
 use mlu_test_support::draws::drawn;
 use mlu_test_support::numbers::{are, element, elements};
@@ -48,7 +47,7 @@ pub fn next_row_agrees<F: Field, EF: ExtensionField<F> + Sample>(
     eq1: &EqMaybePacked<F, EF>,
     weights: &[EF],
 ) -> Result<bool, AllocError>
-    requires { length weights.now ≡ length (weights_of EF.ExtensionPacking.ext_lanes eq1.now) }
+    requires { length weights.now ≡ length eq1.now.weights }
 {
     let eq_weight = EF::sample(rng);
     let shifted_weight = EF::sample(rng);
@@ -77,54 +76,11 @@ fn dots_agree<F: Field + Sample, EF: ExtensionField<F>>(
     eq1: &EqMaybePacked<F, EF>,
     moved: &[EF],
 ) -> Result<bool, AllocError>
-    requires { length moved.now ≡ length eq0.now * length (weights_of EF.ExtensionPacking.ext_lanes eq1.now) }
+    requires { length moved.now ≡ length eq0.now * length eq1.now.weights }
 {
     let base = drawn::<F>(alloc, rng, moved.len())?;
-    let sum = eq1.dot_base_shifted(eq0, &base);
+    let sum = split::dot_base_shifted(eq0, eq1, &base);
     Ok(sum == dot(moved, &images::<F, EF>(alloc, &base)?))
-}
-
-/// Whether each of `positions` rows of drawn base entries becomes its dot with the moved table.
-fn suffixes_agree<F: Field + Sample, EF: ExtensionField<F> + Sample>(
-    alloc: Global,
-    rng: &mut Pcg32,
-    eq0: &[EF],
-    eq1: &EqMaybePacked<F, EF>,
-    moved: &[EF],
-    positions: usize,
-) -> Result<bool, AllocError>
-    requires moved { length moved.now ≡ length eq0.now * length (weights_of EF.ExtensionPacking.ext_lanes eq1.now) }
-    requires small { length moved.now < 256 }
-    requires positions { positions < 8 }
-{
-    if eq0.is_empty() {
-        return Ok(true);
-    }
-    let base = drawn::<F>(alloc, rng, positions * moved.len())?;
-    let mut out = drawn::<EF>(alloc, rng, positions)?;
-    eq1.compress_suffix_shifted_into(eq0, &mut out, &base);
-    Ok(out == row_dots(alloc, moved, &base)?)
-}
-
-/// Whether rows of drawn base entries are added to `positions` drawn outputs, times their entries of
-/// the moved table.
-fn prefixes_agree<F: Field + Sample, EF: ExtensionField<F> + Sample>(
-    alloc: Global,
-    rng: &mut Pcg32,
-    eq0: &[EF],
-    eq1: &EqMaybePacked<F, EF>,
-    moved: &[EF],
-    positions: usize,
-) -> Result<bool, AllocError>
-    requires moved { length moved.now ≡ length eq0.now * length (weights_of EF.ExtensionPacking.ext_lanes eq1.now) }
-    requires small { length moved.now < 256 }
-    requires positions { positions < 8 }
-{
-    let base = drawn::<F>(alloc, rng, moved.len() * positions)?;
-    let mut out = drawn::<EF>(alloc, rng, positions)?;
-    let sums = with_rows(alloc, &out, moved, &base)?;
-    eq1.compress_prefix_shifted_into(eq0, &mut out, &base);
-    Ok(out == sums)
 }
 
 /// Whether the sums with the moved table agree, for outputs of up to two places.
@@ -135,13 +91,13 @@ pub fn agree<F: Field + Sample, EF: ExtensionField<F> + Sample>(
     eq1: &EqMaybePacked<F, EF>,
     moved: &[EF],
 ) -> Result<bool, AllocError>
-    requires moved { length moved.now ≡ length eq0.now * length (weights_of EF.ExtensionPacking.ext_lanes eq1.now) }
+    requires moved { length moved.now ≡ length eq0.now * length eq1.now.weights }
     requires small { length moved.now < 256 }
 {
     for positions in 0..3 {
         if !dots_agree(alloc, rng, eq0, eq1, moved)?
-            || !suffixes_agree(alloc, rng, eq0, eq1, moved, positions)?
-            || !prefixes_agree(alloc, rng, eq0, eq1, moved, positions)?
+            || !suffixes_agree(alloc, rng, eq0, eq1, moved, Form::Shifted, positions)?
+            || !prefixes_agree(alloc, rng, eq0, eq1, moved, Form::Shifted, positions)?
         {
             return Ok(false);
         }

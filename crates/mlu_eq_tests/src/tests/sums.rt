@@ -2,7 +2,6 @@
 ghost use Rattle.std.specs.Prelude.{◌≡◌, ◌<◌, ◌*◌, ◌^◌, length};
 
 use super::folds::{Fold, fold_in_place};
-use super::values::pair;
 use mlu_eq::{
     eval_base, eval_ext, fold_prefix, fold_prefix_at, fold_prefix_to_packed, fold_suffix,
     fold_suffix_by_base,
@@ -13,12 +12,13 @@ use mlu_ring::{
 };
 use mlu_test_support::draws::{drawn, drawn_table};
 use mlu_test_support::lanes::lanes;
+use mlu_test_support::lists::pair;
 use mlu_test_support::plain::{compressed_prefix, compressed_suffix, images, value};
 use rand_pcg::Pcg32;
 use std::alloc::{AllocError, Global};
 
 /// The sum of the lower half of the table times `u` and its upper half times `c`.
-fn halves_joined<R: PrimeCharacteristicRing>(
+fn prefix_fold<R: PrimeCharacteristicRing>(
     alloc: Global,
     table: &[R],
     u: R,
@@ -28,7 +28,7 @@ fn halves_joined<R: PrimeCharacteristicRing>(
 }
 
 /// The sum of the table's even entries times `u` and its odd ones times `c`.
-fn neighbours_joined<R: PrimeCharacteristicRing>(
+fn suffix_fold<R: PrimeCharacteristicRing>(
     alloc: Global,
     table: &[R],
     u: R,
@@ -62,7 +62,7 @@ fn entries_agree<F: Additive, EF: Algebra<F>>(base: &[F], r: EF, folded: &[EF]) 
     true
 }
 
-/// Whether the folds of a base table at `r` join its images.
+/// Whether the folds of a base table at `r` are the plain sums of its images.
 fn folds_agree<F: Additive, EF: Algebra<F>>(
     alloc: Global,
     base: &[F],
@@ -72,13 +72,13 @@ fn folds_agree<F: Additive, EF: Algebra<F>>(
     let prefix = fold_prefix(alloc, base, r)?;
     Ok(
         entries_agree(base, r, &prefix)
-            && prefix == halves_joined(alloc, &table, EF::ONE - r, r)?
-            && fold_suffix(alloc, base, r)? == neighbours_joined(alloc, &table, EF::ONE - r, r)?,
+            && prefix == prefix_fold(alloc, &table, EF::ONE - r, r)?
+            && fold_suffix(alloc, base, r)? == suffix_fold(alloc, &table, EF::ONE - r, r)?,
     )
 }
 
-/// Whether the fold in place at `r` joins the entries of the table.
-fn joins<R: Additive, F: Algebra<R>>(
+/// Whether the fold in place at `r` is the plain sum of the entries of the table.
+fn fold_in_place_agrees<R: Additive, F: Algebra<R>>(
     alloc: Global,
     table: &[F],
     fold: Fold,
@@ -86,18 +86,18 @@ fn joins<R: Additive, F: Algebra<R>>(
 ) -> Result<bool, AllocError> {
     let c = F::from_base(r);
     let u = F::ONE - c;
-    let joined = match fold {
-        Fold::Prefix => halves_joined(alloc, table, u, c)?,
-        Fold::Monomial => halves_joined(alloc, table, F::ONE, c)?,
-        Fold::Sums => halves_joined(alloc, table, F::ONE, F::ONE)?,
-        Fold::Suffix => neighbours_joined(alloc, table, u, c)?,
+    let expected = match fold {
+        Fold::Prefix => prefix_fold(alloc, table, u, c)?,
+        Fold::Monomial => prefix_fold(alloc, table, F::ONE, c)?,
+        Fold::Sums => prefix_fold(alloc, table, F::ONE, F::ONE)?,
+        Fold::Suffix => suffix_fold(alloc, table, u, c)?,
     };
     let mut folded = Vec::from_slice(alloc, table)?;
     fold_in_place(&mut folded, fold, r);
-    Ok(folded.starts_with(&joined))
+    Ok(folded.starts_with(&expected))
 }
 
-/// Whether the folds of a table at a base element join its entries.
+/// Whether the folds of a table at a base element are the plain sums of its entries.
 fn folds_at_base_agree<R: Additive, F: Algebra<R>>(
     alloc: Global,
     table: &[F],
@@ -106,11 +106,11 @@ fn folds_at_base_agree<R: Additive, F: Algebra<R>>(
     let c = F::from_base(r);
     let copied = fold_suffix_by_base(alloc, table, r)?;
     Ok(
-        copied == neighbours_joined(alloc, table, F::ONE - c, c)?
-            && joins(alloc, table, Fold::Prefix, r)?
-            && joins(alloc, table, Fold::Monomial, r)?
-            && joins(alloc, table, Fold::Sums, r)?
-            && joins(alloc, table, Fold::Suffix, r)?,
+        copied == suffix_fold(alloc, table, F::ONE - c, c)?
+            && fold_in_place_agrees(alloc, table, Fold::Prefix, r)?
+            && fold_in_place_agrees(alloc, table, Fold::Monomial, r)?
+            && fold_in_place_agrees(alloc, table, Fold::Sums, r)?
+            && fold_in_place_agrees(alloc, table, Fold::Suffix, r)?,
     )
 }
 
@@ -148,7 +148,7 @@ fn packed_folds_agree<F: Field + Sample, EF: ExtensionField<F> + Sample>(
     let base = drawn::<F>(alloc, rng, 2 * (groups * F::Packing::WIDTH))?;
     let packed = fold_prefix_to_packed(alloc, &base, r)?;
     let folded = lanes::<F, EF>(alloc, &packed)?;
-    Ok(folded == halves_joined(alloc, &images::<F, EF>(alloc, &base)?, EF::ONE - r, r)?)
+    Ok(folded == prefix_fold(alloc, &images::<F, EF>(alloc, &base)?, EF::ONE - r, r)?)
 }
 
 /// Whether all calls give the plain sums of drawn tables in up to eight variables.

@@ -1,33 +1,13 @@
 //! Worked rows of values, and calls of their laws.
-ghost use Rattle.std.specs.Prelude.{◌≡◌, ◌^◌, IfOk, length};
+ghost use Rattle.std.specs.Prelude.{◌≡◌, ◌^◌, length};
 
 use mlu_eq::laws::{affine, joined_prefix, joined_suffix, vertex};
 use mlu_eq::{eval_base, eval_ext};
 use mlu_ring::{Additive, Algebra, ExtensionField, Field, PrimeCharacteristicRing};
-use mlu_test_support::numbers::{element, elements};
+use mlu_test_support::lists::pair;
+use mlu_test_support::numbers::{element, elements, with_coefficients};
 use mlu_test_support::plain::images;
 use std::alloc::{AllocError, Global};
-
-/// The element with these first coefficients.
-pub fn with_coefficients<F: Field, EF: ExtensionField<F>>(numbers: &[i32]) -> EF {
-    let mut value = EF::ZERO;
-    for (k, number) in numbers.iter().enumerate() {
-        if k < EF::DIMENSION {
-            value.set_coefficient(k, element(*number));
-        }
-    }
-    value
-}
-
-/// The list of two elements.
-pub fn pair<T: Copy>(alloc: Global, first: T, second: T) -> Result<Vec<T>, AllocError>
-    ensures { IfOk result (λ pair. length pair.items ≡ 2) }
-{
-    let mut pair = Vec::new(alloc);
-    pair.push(first)?;
-    pair.push(second)?;
-    Ok(pair)
-}
 
 /// Whether a table of base elements, and that of their images, has the value at the point.
 fn values_are<F: Additive, EF: Algebra<F>>(

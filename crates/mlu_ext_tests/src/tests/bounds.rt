@@ -1,24 +1,25 @@
 //! Calls of each item through its bound: a row of numbers, and one function for each ring.
-use super::{Bear, Half, Pair, Quartic, pair, quartic};
+use super::{Bear, NarrowBear, Pair, Quartic, pair, quartic};
 use mlu_ext::ProductAlgebra;
 use mlu_ring::{
     Additive, Algebra, ExtensionField, Field, PackedFieldExtension, PackedValue, RingMapFrom,
     SelfAlgebra,
 };
 use mlu_test_support::bounds::{
-    doubles, doubles_and_adds, doubles_lanes, filled, four_times, gives_zeros, mapped,
-    packed_products, packs_coefficients, products, ring_mapped, scaled, scaled_by_itself,
+    adds_lanes, doubles, doubles_and_adds, doubles_lanes, four_times, gives_zeros, mapped,
+    multiplies_lanes, packs_coefficients, products, ring_mapped, scaled, scaled_by_itself,
     sum_of_lanes, sums,
 };
 use mlu_test_support::draws::drawn;
+use mlu_test_support::lists::filled;
 use mlu_test_support::numbers::elements;
 use rand_pcg::Pcg32;
 use std::alloc::{AllocError, Global};
 use std::test::Fail;
 
 /// A call of a ring, with what it is given and what it is to answer.
-#[derive(Drop)]
-pub enum RingRow<R> {
+#[derive(Clone, Copy, Debug)]
+enum RingRow<R> {
     Sums(R, R, R),
     Products(R, R, R),
     FourProducts(R, R, R),
@@ -46,7 +47,7 @@ fn ring_holds<R: Field + SelfAlgebra>(alloc: Global, row: RingRow<R>) -> Result<
 }
 
 /// A call of an extension, with what it is given and what it is to answer.
-#[derive(Drop)]
+#[derive(Clone, Copy, Debug)]
 pub enum Row<F, EF> {
     Scaled(EF, F, EF),
     Doubled(F, F),
@@ -91,25 +92,6 @@ fn quartics(alloc: Global, row: Row<Bear, Quartic>) -> Result<bool, AllocError> 
 /// [`holds`] over the quartic extension of itself.
 fn quartics_of_quartics(alloc: Global, row: Row<Quartic, Quartic>) -> Result<bool, AllocError> {
     holds::<Quartic, Quartic>(alloc, row)
-}
-
-/// Whether 10 a b, by each product of a field, is the answer in every lane.
-fn multiplies_lanes<F: Field>(alloc: Global, a: F, b: F, answer: F) -> Result<bool, AllocError> {
-    Ok(packed_products(alloc, a, b)? == F::Packing::splat(answer))
-}
-
-/// Whether the lanes of two packed values have this sum.
-fn adds_lanes<F: Field, EF: ExtensionField<F>>(
-    alloc: Global,
-    first: EF,
-    second: EF,
-    sum: EF,
-) -> Result<bool, AllocError> {
-    let first = EF::ExtensionPacking::from_base(first);
-    let second = EF::ExtensionPacking::from_base(second);
-    let mut packed = filled(alloc, first, 1)?;
-    packed.push(second)?;
-    Ok(sum_of_lanes::<F, EF>(packed.as_slice()) == sum)
 }
 
 /// Whether twice a packed element is the same by a packing.
@@ -158,169 +140,53 @@ fn maps<A: Additive, B: RingMapFrom<A>>(x: A, image: B) -> bool {
 }
 
 #[test]
-fn sums_of_each(rt: HostRuntime) -> Result<(), Fail> {
-    assert!(rt;
-        quartic_ring(
-            rt.alloc(),
-            RingRow::Sums(
-                quartic(1, 2, 3, 4),
-                quartic(1, 1, 0, 0),
-                quartic(6, 7, 6, 8)
-            )
-        )?
-    );
-    assert!(rt;
-        pair_ring(
-            rt.alloc(),
-            RingRow::Sums(pair(1, 2), pair(3, 4), pair(12, 17))
-        )?
-    );
+fn ring_of_quartics(rt: HostRuntime) -> Result<(), Fail> {
+    let a = quartic(1, 2, 3, 4);
+    let [x, square, cube] = [
+        quartic(0, 1, 0, 0),
+        quartic(0, 0, 1, 0),
+        quartic(0, 0, 0, 1),
+    ];
+    let rows = [
+        RingRow::Sums(a, quartic(1, 1, 0, 0), quartic(6, 7, 6, 8)),
+        RingRow::Products(square, x, quartic(0, 0, 22, 0)),
+        RingRow::FourProducts(square, cube, quartic(0, 44, 0, 0)),
+        RingRow::Scaled(a, cube, quartic(22, 33, 44, 3)),
+        RingRow::ScaledByItself(a, cube, quartic(22, 33, 44, 1)),
+        RingRow::Zeros,
+        RingRow::Lanes(a, cube, quartic(2, 4, 6, 9)),
+        RingRow::PackedProducts(a, cube, quartic(220, 330, 440, 10)),
+        RingRow::Bytes(16),
+    ];
+    for row in rows {
+        assert!(rt; quartic_ring(rt.alloc(), row)?, "{row:?}");
+    }
     Ok(())
 }
 
 #[test]
-fn products_of_each(rt: HostRuntime) -> Result<(), Fail> {
-    assert!(rt;
-        quartic_ring(
-            rt.alloc(),
-            RingRow::Products(
-                quartic(0, 0, 1, 0),
-                quartic(0, 1, 0, 0),
-                quartic(0, 0, 22, 0)
-            )
-        )?
-    );
-    assert!(rt;
-        pair_ring(
-            rt.alloc(),
-            RingRow::Products(pair(1, 2), pair(3, 4), pair(18, 128))
-        )?
-    );
-    assert!(rt;
-        quartic_ring(
-            rt.alloc(),
-            RingRow::FourProducts(
-                quartic(0, 0, 1, 0),
-                quartic(0, 0, 0, 1),
-                quartic(0, 44, 0, 0)
-            )
-        )?
-    );
-    assert!(rt;
-        pair_ring(
-            rt.alloc(),
-            RingRow::FourProducts(pair(1, 2), pair(3, 4), pair(12, 32))
-        )?
-    );
-    Ok(())
-}
-
-#[test]
-fn zeros_of_each(rt: HostRuntime) -> Result<(), Fail> {
-    assert!(rt; quartic_ring(rt.alloc(), RingRow::Zeros)?);
-    assert!(rt; pair_ring(rt.alloc(), RingRow::Zeros)?);
-    Ok(())
-}
-
-#[test]
-fn quartic_over_the_base_and_itself(rt: HostRuntime) -> Result<(), Fail> {
-    assert!(rt;
-        quartics(
-            rt.alloc(),
-            Row::Scaled(
-                quartic(1, 2, 3, 4),
-                Bear::from_u32(5),
-                quartic(15, 10, 15, 20)
-            )
-        )?
-    );
-    assert!(rt;
-        quartic_ring(
-            rt.alloc(),
-            RingRow::Scaled(
-                quartic(1, 2, 3, 4),
-                quartic(0, 0, 0, 1),
-                quartic(22, 33, 44, 3)
-            )
-        )?
-    );
-    assert!(rt;
-        quartic_ring(
-            rt.alloc(),
-            RingRow::ScaledByItself(
-                quartic(1, 2, 3, 4),
-                quartic(0, 0, 0, 1),
-                quartic(22, 33, 44, 1)
-            )
-        )?
-    );
+fn ring_of_pairs(rt: HostRuntime) -> Result<(), Fail> {
+    let (a, b) = (pair(1, 2), pair(3, 4));
+    let rows = [
+        RingRow::Sums(a, b, pair(12, 17)),
+        RingRow::Products(a, b, pair(18, 128)),
+        RingRow::FourProducts(a, b, pair(12, 32)),
+        RingRow::Scaled(a, b, pair(9, 16)),
+        RingRow::ScaledByItself(a, b, pair(3, 8)),
+        RingRow::Zeros,
+        RingRow::Lanes(a, b, pair(5, 8)),
+        RingRow::PackedProducts(a, b, pair(30, 80)),
+        RingRow::Bytes(8),
+    ];
+    for row in rows {
+        assert!(rt; pair_ring(rt.alloc(), row)?, "{row:?}");
+    }
     Ok(())
 }
 
 #[test]
 fn pair_over_the_base(rt: HostRuntime) {
-    assert_eq!(rt; scaled(pair(1, 2), Half::from_u32(5)), pair(15, 20));
-}
-
-#[test]
-fn pair_over_itself(rt: HostRuntime) -> Result<(), Fail> {
-    assert!(rt;
-        pair_ring(
-            rt.alloc(),
-            RingRow::Scaled(pair(1, 2), pair(3, 4), pair(9, 16))
-        )?
-    );
-    assert!(rt;
-        pair_ring(
-            rt.alloc(),
-            RingRow::ScaledByItself(pair(1, 2), pair(3, 4), pair(3, 8))
-        )?
-    );
-    Ok(())
-}
-
-#[test]
-fn lanes(rt: HostRuntime) -> Result<(), Fail> {
-    assert!(rt;
-        quartic_ring(
-            rt.alloc(),
-            RingRow::Lanes(
-                quartic(1, 2, 3, 4),
-                quartic(0, 0, 0, 1),
-                quartic(2, 4, 6, 9)
-            )
-        )?
-    );
-    assert!(rt;
-        pair_ring(
-            rt.alloc(),
-            RingRow::Lanes(pair(1, 2), pair(3, 4), pair(5, 8))
-        )?
-    );
-    Ok(())
-}
-
-#[test]
-fn fields(rt: HostRuntime) -> Result<(), Fail> {
-    assert!(rt; quartic_ring(rt.alloc(), RingRow::Bytes(16))?);
-    assert!(rt;
-        quartic_ring(
-            rt.alloc(),
-            RingRow::PackedProducts(
-                quartic(1, 2, 3, 4),
-                quartic(0, 0, 0, 1),
-                quartic(220, 330, 440, 10)
-            )
-        )?
-    );
-    assert!(rt; pair_ring(rt.alloc(), RingRow::Bytes(8))?);
-    assert!(rt;
-        pair_ring(
-            rt.alloc(),
-            RingRow::PackedProducts(pair(1, 2), pair(3, 4), pair(30, 80))
-        )?
-    );
-    Ok(())
+    assert_eq!(rt; scaled(pair(1, 2), NarrowBear::from_u32(5)), pair(15, 20));
 }
 
 #[test]
@@ -334,58 +200,29 @@ fn bytes_up_to_the_greatest(rt: HostRuntime) {
 }
 
 #[test]
-fn quartic_coefficients(rt: HostRuntime) -> Result<(), Fail> {
-    assert!(rt;
-        quartics(
-            rt.alloc(),
-            Row::Doubled(Bear::from_u32(3), Bear::from_u32(6))
-        )?
-    );
+fn quartics_over_the_base(rt: HostRuntime) -> Result<(), Fail> {
+    let a = quartic(1, 2, 3, 4);
+    let [one, three, five, six] = [1, 3, 5, 6].map(Bear::from_u32);
+    let rows = [
+        Row::Scaled(a, five, quartic(15, 10, 15, 20)),
+        Row::Doubled(three, six),
+        Row::DoubledLanes(a, quartic(2, 2, 3, 4)),
+        Row::LanesInOrder(a, quartic(1, 0, 0, 0), quartic(8, 8, 12, 16)),
+        Row::PackedCoefficients(one),
+        Row::PackedScale,
+    ];
+    for row in rows {
+        assert!(rt; quartics(rt.alloc(), row)?, "{row:?}");
+    }
     Ok(())
 }
 
 #[test]
-fn quartic_lanes(rt: HostRuntime) -> Result<(), Fail> {
-    assert!(rt;
-        quartics(
-            rt.alloc(),
-            Row::DoubledLanes(quartic(1, 2, 3, 4), quartic(2, 2, 3, 4))
-        )?
-    );
-    assert!(rt;
-        quartics(
-            rt.alloc(),
-            Row::LanesInOrder(
-                quartic(1, 2, 3, 4),
-                quartic(1, 0, 0, 0),
-                quartic(8, 8, 12, 16)
-            )
-        )?
-    );
-    Ok(())
-}
-
-#[test]
-fn quartic_packed_coefficients(rt: HostRuntime) -> Result<(), Fail> {
-    assert!(rt; quartics(rt.alloc(), Row::PackedCoefficients(Bear::ONE))?);
-    assert!(rt; quartics(rt.alloc(), Row::PackedScale)?);
-    Ok(())
-}
-
-#[test]
-fn quartic_over_itself(rt: HostRuntime) -> Result<(), Fail> {
-    assert!(rt;
-        quartics_of_quartics(
-            rt.alloc(),
-            Row::Doubled(quartic(1, 2, 3, 4), quartic(2, 4, 6, 8))
-        )?
-    );
-    assert!(rt;
-        quartics_of_quartics(
-            rt.alloc(),
-            Row::DoubledLanes(quartic(1, 2, 3, 4), quartic(2, 4, 6, 8))
-        )?
-    );
+fn quartics_over_themselves(rt: HostRuntime) -> Result<(), Fail> {
+    let (a, twice) = (quartic(1, 2, 3, 4), quartic(2, 4, 6, 8));
+    for row in [Row::Doubled(a, twice), Row::DoubledLanes(a, twice)] {
+        assert!(rt; quartics_of_quartics(rt.alloc(), row)?, "{row:?}");
+    }
     Ok(())
 }
 
@@ -394,7 +231,7 @@ fn conversions(rt: HostRuntime) {
     let (five, element) = (Bear::from_u32(5), quartic(1, 2, 3, 4));
     assert!(rt; maps::<Bear, Quartic>(five, quartic(5, 0, 0, 0)));
     assert!(rt; maps::<Quartic, Quartic>(element, element));
-    assert!(rt; maps::<Half, Pair>(Half::from_u32(5), pair(5, 5)));
+    assert!(rt; maps::<NarrowBear, Pair>(NarrowBear::from_u32(5), pair(5, 5)));
 }
 
 #[test]
@@ -405,7 +242,7 @@ fn samples(rt: HostRuntime) -> Result<(), Fail> {
     let parts = drawn::<Bear>(rt.alloc(), &mut same, 4)?;
     assert_eq!(rt; coefficients.as_slice(), parts.as_slice());
     let copies = drawn::<Pair>(rt.alloc(), &mut rng, 1)?[0].to_array();
-    let parts = drawn::<Half>(rt.alloc(), &mut same, 2)?;
+    let parts = drawn::<NarrowBear>(rt.alloc(), &mut same, 2)?;
     assert_eq!(rt; copies.as_slice(), parts.as_slice());
     Ok(())
 }

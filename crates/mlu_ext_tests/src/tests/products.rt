@@ -1,10 +1,10 @@
-//! Calls at products.
+//! Calls at products of copies of a ring.
 //!
 //! Through the bound `ExtensionField` by a function whose bound names the field, since a call with
 //! two types as parameters is more than the prover takes here; over another field, and over
 //! themselves, products are called directly.
 use super::bounds::{Row, holds};
-use super::{Bear, Half, Pair, pair};
+use super::{Bear, NarrowBear, Pair, pair};
 use mlu_ext::ProductAlgebra;
 use mlu_lanes::Lanes;
 use mlu_ring::{
@@ -13,7 +13,7 @@ use mlu_ring::{
 use std::alloc::{AllocError, Global};
 use std::test::Fail;
 
-type PackedPair = ProductAlgebra<Lanes<Half, 2>, 2>;
+type PackedPair = ProductAlgebra<Lanes<NarrowBear, 2>, 2>;
 
 /// Whether the row holds over copies of residues.
 fn copies<EF: ExtensionField<Bear>>(alloc: Global, row: Row<Bear, EF>) -> Result<bool, AllocError> {
@@ -57,13 +57,13 @@ fn two_copies_doubled(rt: HostRuntime) -> Result<(), Fail> {
 #[test]
 fn pair_coefficients(rt: HostRuntime) {
     let mut element = pair(2, 3);
-    <Pair as ExtensionField<Half>>::set_coefficient(&mut element, 1, Half::ONE);
+    <Pair as ExtensionField<NarrowBear>>::set_coefficient(&mut element, 1, NarrowBear::ONE);
     assert_eq!(rt; element, pair(2, 1));
     assert_eq!(rt;
-        <Pair as ExtensionField<Half>>::coefficient(&element, 0),
-        Half::TWO
+        <Pair as ExtensionField<NarrowBear>>::coefficient(&element, 0),
+        NarrowBear::TWO
     );
-    assert_eq!(rt; <Pair as ExtensionField<Half>>::DIMENSION, 2);
+    assert_eq!(rt; <Pair as ExtensionField<NarrowBear>>::DIMENSION, 2);
 }
 
 #[test]
@@ -71,7 +71,7 @@ fn pair_lanes(rt: HostRuntime) {
     let mut packed = PackedPair::from_ext_slice(&[pair(1, 2), pair(3, 4)]);
     assert_eq!(rt;
         packed.packed_coefficient(1),
-        Lanes::from_array([Half::from_u32(2), Half::from_u32(4)])
+        Lanes::from_array([NarrowBear::from_u32(2), NarrowBear::from_u32(4)])
     );
     packed.set_packed_coefficient(0, Lanes::ZERO);
     assert_eq!(rt; packed.ext_lane(1), pair(0, 4));

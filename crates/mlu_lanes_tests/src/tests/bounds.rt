@@ -3,17 +3,17 @@
 ghost use Rattle.std.specs.Prelude.{◌≡◌, ◌<◌, length};
 
 use mlu_lanes::{BabyBear, LaneWidth, Lanes, WrappingU64};
-use mlu_ring::each::{multiply_each, negate_each, sub_each};
+use mlu_ring::place_by_place::{multiply_each, negate_each, sub_each};
 use mlu_ring::{
     Additive, Algebra, ExtensionField, Field, Lanewise, PackedValue, PrimeCharacteristicRing,
     RingMapFrom, SelfAlgebra, dot4, mixed_dot4,
 };
 use mlu_test_support::bounds::{
-    doubles, doubles_and_adds, doubles_lanes, filled, four_times, gives_zeros, mapped,
-    packed_products, packs_coefficients, products, ring_mapped, scaled, scaled_by_itself,
-    sum_of_lanes, sums,
+    adds_lanes, doubles, doubles_and_adds, doubles_lanes, four_times, gives_zeros, mapped,
+    multiplies_lanes, packs_coefficients, products, ring_mapped, scaled, scaled_by_itself, sums,
 };
 use mlu_test_support::draws::drawn;
+use mlu_test_support::lists::filled;
 use mlu_test_support::numbers::{are, element, elements};
 use rand_pcg::Pcg32;
 use std::alloc::{AllocError, Global};
@@ -62,7 +62,7 @@ fn holds<F: Field, EF: ExtensionField<F>>(alloc: Global, row: Row) -> Result<boo
         Row::Reloaded => reloads::<F>(alloc),
         Row::Lanes => Ok(doubles_and_adds::<F>(element(1), element(3), element(5))),
         Row::Bytes(bytes) => Ok(F::bytes() == bytes),
-        Row::PackedProducts => multiplies_lanes::<F>(alloc),
+        Row::PackedProducts => multiplies_lanes::<F>(alloc, element(5), element(3), element(150)),
         Row::FourSquares => squares_lanes::<F>(alloc),
         Row::Doubled => Ok(doubles::<F, EF>(element(3), element(6))),
         Row::DoubledLanes(number, twice) => doubles_lanes::<F, EF>(
@@ -71,7 +71,12 @@ fn holds<F: Field, EF: ExtensionField<F>>(alloc: Global, row: Row) -> Result<boo
             element(twice),
         ),
         Row::PackedCoefficients => Ok(packs_coefficients::<F, EF>(element(3))),
-        Row::LanesInOrder(first, second, sum) => adds_lanes::<F, EF>(alloc, first, second, sum),
+        Row::LanesInOrder(first, second, sum) => adds_lanes::<F, EF>(
+            alloc,
+            element(first),
+            element(second),
+            element(sum),
+        ),
     }
 }
 
@@ -150,30 +155,10 @@ fn reloaded<P: PackedValue>(values: &[P::Value], out: &mut [P::Value]) -> bool
     filled.lane(0) == packed.lane(0) && P::LOG_WIDTH < P::WIDTH
 }
 
-/// 10 * 5 * 3
-fn multiplies_lanes<F: Field>(alloc: Global) -> Result<bool, AllocError> {
-    let product = packed_products::<F>(alloc, element(5), element(3))?;
-    Ok(product == F::Packing::splat(element(150)))
-}
-
 /// Four squares of -1
 fn squares_lanes<F: Field>(alloc: Global) -> Result<bool, AllocError> {
     let minus = filled(alloc, F::Packing::splat(F::NEG_ONE), 4)?;
     Ok(F::dot4(minus.as_slice(), minus.as_slice()) == F::Packing::splat(element(4)))
-}
-
-/// The sum of all lanes of two packed values
-fn adds_lanes<F: Field, EF: ExtensionField<F>>(
-    alloc: Global,
-    first: i32,
-    second: i32,
-    sum: i32,
-) -> Result<bool, AllocError> {
-    let first = EF::ExtensionPacking::from_base(element::<EF>(first));
-    let second = EF::ExtensionPacking::from_base(element::<EF>(second));
-    let mut packed = filled(alloc, first, 1)?;
-    packed.push(second)?;
-    Ok(sum_of_lanes::<F, EF>(packed.as_slice()) == element(sum))
 }
 
 /// Sums, differences, products and negations, place by place

@@ -52,6 +52,20 @@ pub fn without_points<F: Field, EF: ExtensionField<F>>(alloc: Global) -> Result<
     Ok(kept && cleared && are(out.as_slice(), &[0, 0, 0]))
 }
 
+/// Two points without coordinates: the one place takes both scalars.
+pub fn without_coordinates<F: Field, EF: ExtensionField<F>>(
+    alloc: Global,
+) -> Result<bool, AllocError> {
+    let evals: RowMajorMatrixView<'_, EF> = RowMajorMatrixView::new(&[], 2);
+    let base: RowMajorMatrixView<'_, F> = RowMajorMatrixView::new(&[], 2);
+    let scalars: Vec<EF> = elements(alloc, &[2, 3])?;
+    let mut out: Vec<EF> = elements(alloc, &[9])?;
+    eval_eq_batch::<F, EF, false>(alloc, evals, out.as_mut_slice(), scalars.as_slice())?;
+    let written = are(out.as_slice(), &[5]);
+    eval_eq_base_batch::<F, EF, true>(alloc, base, out.as_mut_slice(), scalars.as_slice())?;
+    Ok(written && are(out.as_slice(), &[10]))
+}
+
 /// The sum over the points, the columns of the rows, of scalar times weight of `x`.
 fn plain_batch<R: PrimeCharacteristicRing>(
     alloc: Global,

@@ -2,8 +2,8 @@
 
 use super::{Tally, replay};
 use crate::stop::Stop;
-use mlu_cases::fault::{Fault, Reason};
-use mlu_rings::answer;
+use mlu_replay_calls::fault::{Fault, Reason};
+use mlu_replay_rings::answer;
 use std::alloc::Global;
 use std::io::{ErrorKind, Read, Write};
 use std::test::Fail;

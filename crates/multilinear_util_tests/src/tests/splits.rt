@@ -23,7 +23,7 @@ fn sums_base<F: Field + Sample, EF: ExtensionField<F>>(
     table: &[EF],
     variables: usize,
 ) -> Result<bool, AllocError>
-    requires size { length (split_entries EF.ring EF.ExtensionPacking.ext_lanes split.now) ≡ 2 ^ variables }
+    requires size { length (split_entries EF.ring split.now) ≡ 2 ^ variables }
     requires fits { 2 ^ variables < 2 ^ 64 }
 {
     let poly = Poly::<F>::rand(alloc, rng, variables)?;
@@ -37,7 +37,7 @@ fn has_sums<F: Field, EF: ExtensionField<F>>(
     poly: &Poly<F>,
     sums: Sums<EF>,
 ) -> bool
-    requires { length poly.now ≡ length (split_entries EF.ring EF.ExtensionPacking.ext_lanes split.now) }
+    requires { length poly.now ≡ length (split_entries EF.ring split.now) }
 {
     split.eval_base(poly.as_view()) == sums.value
         && split.eval_next_base(poly.as_view()) == sums.steps + sums.end
@@ -50,7 +50,7 @@ fn steps<F: Field, EF: ExtensionField<F>>(
     poly: &Poly<F>,
     steps: EF,
 ) -> Result<bool, AllocError>
-    requires { length (split_entries EF.ring EF.ExtensionPacking.ext_lanes split.now) ≤ length poly.now }
+    requires { length (split_entries EF.ring split.now) ≤ length poly.now }
 {
     let left = split.compress_prefix_shifted(alloc, poly.as_view())?;
     Ok(left.as_constant() == Some(steps))
@@ -65,7 +65,7 @@ fn sums_extension<F: Field, EF: ExtensionField<F> + Sample>(
     table: &[EF],
     variables: usize,
 ) -> Result<bool, AllocError>
-    requires size { length (split_entries EF.ring EF.ExtensionPacking.ext_lanes split.now) ≡ 2 ^ variables }
+    requires size { length (split_entries EF.ring split.now) ≡ 2 ^ variables }
     requires fits { 2 ^ variables < 2 ^ 64 }
 {
     let poly = Poly::<EF>::rand(alloc, rng, variables)?;
@@ -84,7 +84,7 @@ fn sums_lanes<F: Field, EF: ExtensionField<F>>(
     poly: &Poly<EF>,
     table: &[EF],
 ) -> Result<bool, AllocError>
-    requires { length poly.now ≡ length (split_entries EF.ring EF.ExtensionPacking.ext_lanes split.now) }
+    requires { length poly.now ≡ length (split_entries EF.ring split.now) }
 {
     if poly.num_evals() < <F::Packing as PackedValue>::WIDTH {
         return Ok(true);
@@ -101,7 +101,7 @@ fn accumulates<F: Field, EF: ExtensionField<F>>(
     before: &Poly<EF>,
     table: &[EF],
 ) -> Result<bool, AllocError>
-    requires { length before.now ≡ length (split_entries EF.ring EF.ExtensionPacking.ext_lanes split.now) }
+    requires { length before.now ≡ length (split_entries EF.ring split.now) }
 {
     let mut after = before.try_clone(alloc)?;
     split.accumulate_into(after.as_mut_slice(), Some(EF::TWO));
@@ -115,7 +115,7 @@ fn accumulates_lanes<F: Field, EF: ExtensionField<F>>(
     before: &Poly<EF>,
     table: &[EF],
 ) -> Result<bool, AllocError>
-    requires { length before.now ≡ length (split_entries EF.ring EF.ExtensionPacking.ext_lanes split.now) }
+    requires { length before.now ≡ length (split_entries EF.ring split.now) }
 {
     if before.num_evals() < <F::Packing as PackedValue>::WIDTH {
         return Ok(true);
@@ -136,7 +136,7 @@ fn compresses<F: Field + Sample, EF: ExtensionField<F>>(
     table: &[EF],
     variables: usize,
 ) -> Result<bool, AllocError>
-    requires size { length (split_entries EF.ring EF.ExtensionPacking.ext_lanes split.now) ≡ 2 ^ variables }
+    requires size { length (split_entries EF.ring split.now) ≡ 2 ^ variables }
     requires few { variables ≤ 10 }
     requires lanes { F.Packing.WIDTH ≤ 8 }
 {
@@ -155,7 +155,7 @@ fn compresses_scalars<F: Field, EF: ExtensionField<F>>(
     poly: &Poly<F>,
     table: &[EF],
 ) -> Result<bool, AllocError>
-    requires { length (split_entries EF.ring EF.ExtensionPacking.ext_lanes split.now) ≤ length poly.now }
+    requires { length (split_entries EF.ring split.now) ≤ length poly.now }
 {
     let prefix = split.compress_prefix(alloc, poly.as_view())?;
     let suffix = split.compress_suffix(alloc, poly.as_view())?;
@@ -172,7 +172,7 @@ fn compresses_moved<F: Field, EF: ExtensionField<F>>(
     poly: &Poly<F>,
     table: &[EF],
 ) -> Result<bool, AllocError>
-    requires { length (split_entries EF.ring EF.ExtensionPacking.ext_lanes split.now) ≤ length poly.now }
+    requires { length (split_entries EF.ring split.now) ≤ length poly.now }
 {
     let moved = plain::moved(alloc, table)?;
     let prefix = split.compress_prefix_shifted(alloc, poly.as_view())?;
@@ -190,7 +190,7 @@ fn compresses_to_packed<F: Field, EF: ExtensionField<F>>(
     poly: &Poly<F>,
     table: &[EF],
 ) -> Result<bool, AllocError>
-    requires { length (split_entries EF.ring EF.ExtensionPacking.ext_lanes split.now) * F.Packing.WIDTH ≤ length poly.now }
+    requires { length (split_entries EF.ring split.now) * F.Packing.WIDTH ≤ length poly.now }
 {
     let packed = split.compress_prefix_to_packed(alloc, poly.as_view())?;
     let left = packed.unpack::<F, EF>(alloc)?;
@@ -205,7 +205,7 @@ fn answers<F: Field + Sample, EF: ExtensionField<F> + Sample>(
     table: &[EF],
     variables: usize,
 ) -> Result<bool, AllocError>
-    requires size { length (split_entries EF.ring EF.ExtensionPacking.ext_lanes split.now) ≡ 2 ^ variables }
+    requires size { length (split_entries EF.ring split.now) ≡ 2 ^ variables }
     requires few { variables ≤ 10 }
     requires lanes { F.Packing.WIDTH ≤ 8 }
 {

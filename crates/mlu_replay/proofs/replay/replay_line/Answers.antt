@@ -1,6 +1,6 @@
 use Rattle.std.proofs.Common.{rules}
 use Rattle.mlu_replay.specs.Counts.{differ_line}
-use Rattle.mlu_cases.specs.Words.{first_word}
+use Rattle.mlu_replay_calls.specs.Words.{first_word}
 use Rattle.std.specs.Io.KnownBytes.{Appends}
 use Rattle.mlu_replay.proofs.Lines.{IsGiven-written}
 use Rattle.mlu_replay.proofs.replay.replay_line.Goals as goal

@@ -9,4 +9,4 @@ returns g c =
     let long = g.met.EF.ExtensionPacking.PackedFieldExtension.lanes_are.length-parts in
     let packed = c.in_ok-packed.packed.items in
     let size : length packed * n ≡ length c.args.weights.now = search rules in
-    ap length c.from_packed.ensures.value ∙ length-logical lanes n long packed ∙ size
+    ap (λ half. length half.weights) c.from_packed.ensures ∙ length-logical lanes n long packed ∙ size

@@ -1,6 +1,0 @@
-use Rattle.std.proofs.Common.{arith}
-use Rattle.mlu_cases.proofs.Powers.{grown}
-use Rattle.mlu_cases.proofs.ops.tables.pad_zeros.Goals as goal
-
-pub pad_zeros-requires-clause-grows : goal.pad_zeros-requires-clause-grows
-pad_zeros-requires-clause-grows g c = grown _ _ _ c.num_variables.ensures.value (omega arith)

@@ -1,0 +1,64 @@
+//! The images of half tables in other rings.
+ghost use Rattle.std.specs.Prelude.{◌≡◌, length};
+
+use super::halves::{packed_half, scalar_half};
+use mlu_eq::half::images;
+use mlu_eq::{EqMaybePacked, half, split};
+use mlu_ext::QuarticExtension;
+use mlu_lanes::{BabyBear, WrappingU64};
+use mlu_ring::{Additive, ExtensionField, Field, MapFrom, PrimeCharacteristicRing, Sample};
+use mlu_test_support::draws::drawn;
+use mlu_test_support::numbers::elements;
+use rand_pcg::Pcg32;
+use std::alloc::{AllocError, Global};
+
+/// The images of the weights, one by one.
+fn mapped<E: Additive, R: MapFrom<E>>(alloc: Global, weights: &[E]) -> Result<Vec<R>, AllocError> {
+    let mut images = Vec::new(alloc);
+    for weight in weights {
+        images.push(R::map(*weight))?;
+    }
+    Ok(images)
+}
+
+/// Whether the table in the other ring has the images of the weights, as scalars.
+fn has_images<F: Field, EF: ExtensionField<F>, R: ExtensionField<R> + MapFrom<EF>>(
+    alloc: Global,
+    eq1: &EqMaybePacked<F, EF>,
+    weights: &[EF],
+) -> Result<bool, AllocError>
+    requires { length eq1.now.weights ≡ length weights.now }
+{
+    let table = half::to_field::<F, EF, R>(eq1, alloc)?;
+    let one = elements::<R>(alloc, &[1])?;
+    let mut out = R::zero_vec(alloc, weights.len())?;
+    split::accumulate_into(&one, &table, &mut out, R::ONE);
+    Ok(!table.is_packed() && out == mapped::<EF, R>(alloc, weights)?)
+}
+
+/// Whether tables of eight drawn weights, scalar and packed, have their images in the other ring.
+fn images_agree<F: Field, EF: ExtensionField<F> + Sample, R: ExtensionField<R> + MapFrom<EF>>(
+    alloc: Global,
+) -> Result<bool, AllocError> {
+    let mut rng = Pcg32::new(1, 54);
+    let weights = drawn::<EF>(alloc, &mut rng, 8)?;
+    let scalar = scalar_half::<F, EF>(alloc, &weights)?;
+    let Some(packed) = packed_half::<F, EF>(alloc, &weights)? else {
+        return Ok(false);
+    };
+    Ok(
+        images::<EF, R>(alloc, &weights)? == mapped::<EF, R>(alloc, &weights)?
+            && has_images::<F, EF, R>(alloc, &scalar, &weights)?
+            && has_images::<F, EF, R>(alloc, &packed, &weights)?,
+    )
+}
+
+/// [`images_agree`] of residues modulo a prime in those modulo 2^64.
+pub fn residues_in_words(alloc: Global) -> Result<bool, AllocError> {
+    images_agree::<BabyBear<4>, BabyBear<4>, WrappingU64<4>>(alloc)
+}
+
+/// [`images_agree`] of residues modulo a prime in their quartic extension.
+pub fn residues_in_quartics(alloc: Global) -> Result<bool, AllocError> {
+    images_agree::<BabyBear<4>, BabyBear<4>, QuarticExtension<BabyBear<4>>>(alloc)
+}

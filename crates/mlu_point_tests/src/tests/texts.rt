@@ -1,0 +1,26 @@
+//! What `{:?}` prints of points.
+use mlu_lanes::WrappingU64;
+use mlu_point::point::{Point, PointView};
+use mlu_test_support::numbers::elements;
+use mlu_test_support::texts::debug_text;
+use std::test::Fail;
+
+#[test]
+fn points(rt: HostRuntime) -> Result<(), Fail> {
+    let owned = Point::new(elements::<WrappingU64<4>>(rt.alloc(), &[2, 3])?);
+    assert_eq!(rt;
+        debug_text(rt.alloc(), &owned)?.as_str(),
+        "Point { coords: [WrappingU64 { value: 2 }, WrappingU64 { value: 3 }] }"
+    );
+    let view = owned.as_view();
+    assert_eq!(rt;
+        debug_text(rt.alloc(), &view)?.as_str(),
+        "PointView { coords: [WrappingU64 { value: 2 }, WrappingU64 { value: 3 }] }"
+    );
+    let empty = PointView::<WrappingU64<4>>::default();
+    assert_eq!(rt;
+        debug_text(rt.alloc(), &empty)?.as_str(),
+        "PointView { coords: [] }"
+    );
+    Ok(())
+}

@@ -1,0 +1,60 @@
+-- Words of lists: their parts between commas.
+use Rattle.std.proofs.Common.{◌≡◌, ◌==◌, ℕ, suc, ◌+◌, ◌<◌, take, get_or, List, [], ◌∷◌, ◌++◌, length, sym, ap, ◌∙◌, subst, refl, arith, append_assoc}
+use Rattle.std.specs.List.{slice_split, join_with_byte}
+use Rattle.std.proofs.lemmas.List.{get_or-append-add, length-take-le, take_more}
+use Rattle.std.proofs.lemmas.List.Splits.{join_with_byte-slice_split, length-slice_split}
+use Rattle.mlu_replay_calls.specs.Elements.{EachStands, IsListWord}
+
+-- one word more
+join-more : (words : List (List ℕ)) (word : List ℕ) → 0 < length words → join_with_byte 44 (words ++ word ∷ []) ≡ join_with_byte 44 words ++ 44 ∷ word
+join-more [] word some = absurd (omega (arith, some))
+join-more (w ∷ []) word some = refl
+join-more (w ∷ v ∷ vs) word some =
+    ap (λ l. w ++ 44 ∷ l) (join-more (v ∷ vs) word (omega arith)) ∙ sym (append_assoc w (44 ∷ join_with_byte 44 (v ∷ vs)) (44 ∷ word))
+
+-- what follows the first element
+pub get_or-rest : {T : Type 0} (list : List T) (first : T) (rest : List T) (i : ℕ) (d : T) → list ≡ first ∷ rest → get_or rest i d ≡ get_or list (i + 1) d
+get_or-rest list first rest i d is =
+    let next : 1 + i ≡ i + 1 = omega arith in
+    sym (get_or-append-add (first ∷ []) rest i d) ∙ ap (λ n. get_or (first ∷ rest) n d) next ∙ ap (λ l. get_or l (i + 1) d) (sym is)
+
+module _ {T : Type 0} (Stands : List ℕ → T → Type 0) where
+  -- one more
+  pub EachStands-more : (words : List (List ℕ)) (xs : List T) (word : List ℕ) (x : T) → EachStands Stands words xs → Stands word x → EachStands Stands (words ++ word ∷ []) (xs ++ x ∷ [])
+  EachStands-more [] [] word x each last = (last, tt)
+  EachStands-more [] (y ∷ ys) word x each last = absurd each
+  EachStands-more (w ∷ ws) [] word x each last = absurd each
+  EachStands-more (w ∷ ws) (y ∷ ys) word x (first, rest) last = (first, EachStands-more ws ys word x rest last)
+
+  -- the parts of a word stand for the elements of its list
+  pub IsListWord-parts : (word : List ℕ) (words : List (List ℕ)) (xs : List T) → EachStands Stands words xs → words ≡ slice_split (λ b. b == 44) word → IsListWord Stands word xs
+  IsListWord-parts word [] [] each is = absurd (omega (arith, ap length is, length-slice_split (λ b. b == 44) word))
+  IsListWord-parts word (w ∷ ws) [] each is = absurd each
+  IsListWord-parts word [] (x ∷ xs) each is = absurd each
+  IsListWord-parts word (w ∷ ws) (x ∷ xs) each is = (w ∷ ws, each, sym (ap (join_with_byte 44) is ∙ join_with_byte-slice_split 44 word))
+
+  EachStands-length : (words : List (List ℕ)) (xs : List T) → EachStands Stands words xs → length words ≡ length xs
+  EachStands-length [] [] each = refl
+  EachStands-length [] (x ∷ xs) each = absurd each
+  EachStands-length (w ∷ ws) [] each = absurd each
+  EachStands-length (w ∷ ws) (x ∷ xs) each = ap suc (EachStands-length ws xs each.1)
+
+  -- words that are joined so far
+  abbrev pub HasWords : List ℕ → List T → Type 0
+  HasWords word xs = (words : List (List ℕ)) × EachStands Stands words xs × (word ≡ join_with_byte 44 words)
+
+  pub IsListWord-joined : (word : List ℕ) (xs : List T) → 0 < length xs → HasWords word xs → IsListWord Stands word xs
+  IsListWord-joined word [] some (words, each, is) = absurd (omega (arith, some))
+  IsListWord-joined word (x ∷ xs) some (words, each, is) = (words, each, is)
+
+  pub HasWords-first : (x : T) (xs : List T) (word : List ℕ) → Stands word x → HasWords word (take 1 (x ∷ xs))
+  HasWords-first x xs word stands = (word ∷ [], (stands, tt), refl)
+
+  pub HasWords-more : (list : List T) (n : ℕ) (x : T) (old comma new word : List ℕ) → 0 < n → n < length list → x ≡ get_or list n x → HasWords old (take n list) → comma ≡ old ++ 44 ∷ [] → Stands word x → new ≡ comma ++ word → HasWords new (take (n + 1) list)
+  HasWords-more list n x old comma new word some within at (words, each, is) separated stands written =
+      let more : take (n + 1) list ≡ take n list ++ x ∷ [] = take_more list n x within ∙ ap (λ y. take n list ++ y ∷ []) (sym at) in
+      let size : length words ≡ n = EachStands-length words (take n list) each ∙ length-take-le n list (omega (arith, within)) in (
+        words ++ word ∷ [],
+        subst (λ l. EachStands Stands (words ++ word ∷ []) l) (sym more) (EachStands-more words (take n list) word x each stands),
+        written ∙ ap (λ l. l ++ word) separated ∙ append_assoc old (44 ∷ []) word ∙ ap (λ l. l ++ 44 ∷ word) is ∙ sym (join-more words word (omega (arith, size, some))),
+      )

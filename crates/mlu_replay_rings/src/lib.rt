@@ -1,0 +1,62 @@
+//! The calls of recorded cases at the rings and lane widths that a case names.
+//!
+//! Stands on `mlu_replay_calls`, which has the calls; the program `mlu_replay` stands on it. It is a crate
+//! of its own since the calls over every ring take long to prove, and nothing here changes with
+//! them.
+#![tactic(auto)]
+
+use mlu_replay_calls::fault::{Fault, Reason};
+use mlu_replay_calls::ops::{mixed, over_base, over_itself};
+use mlu_replay_calls::words::Words;
+use mlu_ext::QuarticExtension;
+use mlu_lanes::{BabyBear, WrappingU64};
+use std::alloc::Global;
+
+/// The answer over the rings that the tag names, at a lane width.
+macro_rules! over_rings {
+    ($width:literal, $op:ident, $words:ident) => {
+        match $words.word()? {
+            "b" => over_itself::<BabyBear<$width>>($op, $words),
+            "m" => mixed::<BabyBear<$width>, QuarticExtension<BabyBear<$width>>>($op, $words),
+            "e" => over_base::<BabyBear<$width>, QuarticExtension<BabyBear<$width>>>($op, $words),
+            "u" => over_itself::<WrappingU64<$width>>($op, $words),
+            _ => Err(Fault::Unknown(Reason::Tag)),
+        }
+    };
+}
+
+/// The answer to what is asked: the call, the width, the tag of the rings, and the operands.
+pub fn answer(alloc: Global, asked: &str) -> Result<String, Fault> {
+    let mut words = Words::new(alloc, asked);
+    let op = words.word()?;
+    let answer = match words.word()? {
+        "1" => one_lane(op, &mut words),
+        "2" => two_lanes(op, &mut words),
+        "4" => four_lanes(op, &mut words),
+        "8" => eight_lanes(op, &mut words),
+        "16" => sixteen_lanes(op, &mut words),
+        _ => Err(Fault::Unknown(Reason::Width)),
+    }?;
+    words.end()?;
+    Ok(answer)
+}
+
+fn one_lane(op: &str, words: &mut Words<'_>) -> Result<String, Fault> {
+    over_rings!(1, op, words)
+}
+
+fn two_lanes(op: &str, words: &mut Words<'_>) -> Result<String, Fault> {
+    over_rings!(2, op, words)
+}
+
+fn four_lanes(op: &str, words: &mut Words<'_>) -> Result<String, Fault> {
+    over_rings!(4, op, words)
+}
+
+fn eight_lanes(op: &str, words: &mut Words<'_>) -> Result<String, Fault> {
+    over_rings!(8, op, words)
+}
+
+fn sixteen_lanes(op: &str, words: &mut Words<'_>) -> Result<String, Fault> {
+    over_rings!(16, op, words)
+}
