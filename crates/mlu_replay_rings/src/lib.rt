@@ -5,11 +5,11 @@
 //! them.
 #![tactic(auto)]
 
+use mlu_ext::QuarticExtension;
+use mlu_lanes::{BabyBear, WrappingU64};
 use mlu_replay_calls::fault::{Fault, Reason};
 use mlu_replay_calls::ops::{mixed, over_base, over_itself};
 use mlu_replay_calls::words::Words;
-use mlu_ext::QuarticExtension;
-use mlu_lanes::{BabyBear, WrappingU64};
 use std::alloc::Global;
 
 /// The answer over the rings that the tag names, at a lane width.
