@@ -5,3 +5,4 @@ pub mod Successor
 pub mod Lanes
 pub mod Matrices
 pub mod Calls
+pub mod Meters

@@ -5,8 +5,8 @@ ghost use Rattle.std.specs.Prelude.{◌≡◌, ◌<◌, length};
 use mlu_lanes::{BabyBear, LaneWidth, Lanes, WrappingU64};
 use mlu_ring::place_by_place::{multiply_each, negate_each, sub_each};
 use mlu_ring::{
-    Additive, Algebra, ExtensionField, Field, Lanewise, PackedValue, PrimeCharacteristicRing,
-    RingMapFrom, SelfAlgebra, dot4, mixed_dot4,
+    Additive, Algebra, Counter, ExtensionField, Field, Lanewise, Meter, PackedValue,
+    PrimeCharacteristicRing, RingMapFrom, SelfAlgebra, Unmetered, dot4, mixed_dot4,
 };
 use mlu_test_support::bounds::{
     adds_lanes, doubles, doubles_and_adds, doubles_lanes, four_times, gives_zeros, mapped,
@@ -40,6 +40,7 @@ enum Row {
     Bytes(usize),
     PackedProducts,
     FourSquares,
+    Counted,
     Doubled,
     DoubledLanes(i32, i32),
     PackedCoefficients,
@@ -64,6 +65,7 @@ fn holds<F: Field, EF: ExtensionField<F>>(alloc: Global, row: Row) -> Result<boo
         Row::Bytes(bytes) => Ok(F::bytes() == bytes),
         Row::PackedProducts => multiplies_lanes::<F>(alloc, element(5), element(3), element(150)),
         Row::FourSquares => squares_lanes::<F>(alloc),
+        Row::Counted => Ok(counts::<F>()),
         Row::Doubled => Ok(doubles::<F, EF>(element(3), element(6))),
         Row::DoubledLanes(number, twice) => doubles_lanes::<F, EF>(
             alloc,
@@ -161,6 +163,19 @@ fn squares_lanes<F: Field>(alloc: Global) -> Result<bool, AllocError> {
     Ok(F::dot4(minus.as_slice(), minus.as_slice()) == F::Packing::splat(element(4)))
 }
 
+/// 3 * 3, alone and in every lane, each by a counter
+fn counts<F: Field>() -> bool {
+    let three: F = element(3);
+    let threes = F::Packing::splat(three);
+    let (mut one, mut lanes) = (Counter::new(), Counter::new());
+    let nine = one.times(three, three);
+    let nines = Meter::<F>::times_lanes(&mut lanes, threes, threes);
+    let multiplied = nine == element(9) && nines == F::Packing::splat(nine);
+    multiplied
+        && (one.made(), one.groups()) == (1, 0)
+        && (lanes.made(), lanes.groups()) == (F::Packing::WIDTH as u64, 0)
+}
+
 /// Sums, differences, products and negations, place by place
 fn place_by_place<R: PrimeCharacteristicRing>(alloc: Global) -> Result<bool, AllocError> {
     let mut out = elements::<R>(alloc, &[5, 7])?;
@@ -216,6 +231,14 @@ fn fields(rt: HostRuntime) -> Result<(), Fail> {
     assert!(rt; words::<2>(rt.alloc(), Row::Bytes(8))?);
     assert!(rt; residues::<4>(rt.alloc(), Row::PackedProducts)?);
     assert!(rt; words::<2>(rt.alloc(), Row::PackedProducts)?);
+    Ok(())
+}
+
+#[test]
+fn meters(rt: HostRuntime) -> Result<(), Fail> {
+    assert!(rt; residues::<4>(rt.alloc(), Row::Counted)?);
+    assert!(rt; words::<2>(rt.alloc(), Row::Counted)?);
+    assert_eq!(rt; size_of_val(&Unmetered::new()), 0);
     Ok(())
 }
 

@@ -1,0 +1,153 @@
+//! Meters: whoever multiplies by one can say how many products were made.
+ghost use Rattle.std.specs.Prelude.{◌≡◌, ℕ, ◌+◌, ◌-◌, ◌^◌, min};
+ghost use Rattle.mlu_ring.specs.Tables.{pair};
+
+use crate::field::Field;
+use crate::packed::{Lanewise, PackedValue};
+use crate::tally::Tally;
+
+/// What multiplies for code over [`Lanewise`], which has no product of its own.
+///
+/// `made` counts the products of single elements, and `groups` the sums of four packed products.
+/// Both are whole numbers without a bound, and no call but these three changes them.
+pub trait Meter<F: Lanewise> {
+    ghost made: { Self → ℕ };
+
+    ghost groups: { Self → ℕ };
+
+    /// The product. Raises `made` by 1.
+    fn times(&mut self, a: F, b: F) -> F
+        ensures value { result ≡ F.ring.product a b }
+        ensures made { made self.new ≡ made self.old + 1 }
+        ensures groups { groups self.new ≡ groups self.old };
+
+    /// The products, lane by lane. Raises `made` by `WIDTH`.
+    fn times_lanes(&mut self, a: F::Packing, b: F::Packing) -> F::Packing
+        ensures value { result ≡ F.Packing.ring.product a b }
+        ensures made { made self.new ≡ made self.old + F.Packing.WIDTH }
+        ensures groups { groups self.new ≡ groups self.old };
+
+    /// The sum of the four products `l[i] * r[i]`. Raises `groups` by 1.
+    fn dot4(&mut self, l: &[F::Packing; 4], r: &[F::Packing; 4]) -> F::Packing
+        ensures value { result ≡ pair F.Packing.ring l.now r.now }
+        ensures made { made self.new ≡ made self.old }
+        ensures groups { groups self.new ≡ groups self.old + 1 };
+}
+
+/// A meter for each field whose numbers contracts alone know: it takes no bytes and no time.
+#[derive(Drop)]
+pub struct Unmetered {
+    products: Tally,
+    fours: Tally,
+}
+
+impl Unmetered {
+    ghost use Rattle.mlu_ring.specs.Meters.{products_of, groups_of};
+
+    /// A meter at zero.
+    #[inline]
+    pub fn new() -> Self
+        ensures made { products_of result ≡ 0 }
+        ensures groups { groups_of result ≡ 0 }
+    {
+        Unmetered {
+            products: Tally::new(),
+            fours: Tally::new(),
+        }
+    }
+}
+
+impl<F: Field> Meter<F> for Unmetered {
+    ghost use Rattle.mlu_ring.specs.Meters.{products_of, groups_of};
+
+    ghost made = { products_of };
+
+    ghost groups = { groups_of };
+
+    #[inline]
+    fn times(&mut self, a: F, b: F) -> F {
+        self.products.raise(1);
+        a * b
+    }
+
+    #[inline]
+    fn times_lanes(&mut self, a: F::Packing, b: F::Packing) -> F::Packing {
+        self.products.raise(F::Packing::WIDTH);
+        F::lanes_mul(a, b)
+    }
+
+    #[inline]
+    fn dot4(&mut self, l: &[F::Packing; 4], r: &[F::Packing; 4]) -> F::Packing {
+        self.fours.raise(1);
+        F::dot4(l, r)
+    }
+}
+
+/// A meter for each field that shows its numbers, as far as `u64` goes.
+#[derive(Drop)]
+pub struct Counter {
+    exact: Unmetered,
+    made: u64,
+    groups: u64,
+    ghost made_is: { made ≡ min exact.products.count (2 ^ 64 - 1) },
+    ghost groups_is: { groups ≡ min exact.fours.count (2 ^ 64 - 1) },
+}
+
+impl Counter {
+    ghost use Rattle.mlu_ring.specs.Meters.{products_counted, groups_counted};
+
+    /// A meter at zero.
+    #[inline]
+    pub fn new() -> Self
+        ensures made { products_counted result ≡ 0 }
+        ensures groups { groups_counted result ≡ 0 }
+    {
+        Counter {
+            exact: Unmetered::new(),
+            made: 0,
+            groups: 0,
+        }
+    }
+
+    /// The products made, and `u64::MAX` where they are more.
+    #[inline]
+    pub fn made(&self) -> u64
+        ensures { result ≡ min (products_counted self.now) (2 ^ 64 - 1) }
+    {
+        self.made
+    }
+
+    /// The groups asked for, and `u64::MAX` where they are more.
+    #[inline]
+    pub fn groups(&self) -> u64
+        ensures { result ≡ min (groups_counted self.now) (2 ^ 64 - 1) }
+    {
+        self.groups
+    }
+}
+
+impl<F: Field> Meter<F> for Counter {
+    ghost use Rattle.mlu_ring.specs.Meters.{products_counted, groups_counted};
+
+    ghost made = { products_counted };
+
+    ghost groups = { groups_counted };
+
+    #[inline]
+    fn times(&mut self, a: F, b: F) -> F {
+        self.made = self.made.saturating_add(1);
+        self.exact.times(a, b)
+    }
+
+    #[inline]
+    fn times_lanes(&mut self, a: F::Packing, b: F::Packing) -> F::Packing {
+        self.made = self.made.saturating_add(F::Packing::WIDTH as u64);
+        Meter::<F>::times_lanes(&mut self.exact, a, b)
+    }
+
+    #[inline]
+    fn dot4(&mut self, l: &[F::Packing; 4], r: &[F::Packing; 4]) -> F::Packing {
+        self.groups = self.groups.saturating_add(1);
+        Meter::<F>::dot4(&mut self.exact, l, r)
+    }
+}
