@@ -15,3 +15,5 @@ pub mod Outputs
 pub mod Columns
 pub mod Batches
 pub mod Halves
+pub mod Blocks
+pub mod Groups

@@ -2,6 +2,7 @@
 
 mod coordinates;
 mod evaluation;
+mod metered;
 mod order;
 mod owned;
 mod table;

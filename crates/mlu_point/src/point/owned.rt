@@ -1,15 +1,17 @@
 //! Points that own their coordinates.
-ghost use Rattle.std.specs.Prelude.{◌≡◌, ◌^◌, ◌<◌, ◌≤◌, ◌++◌, [], length, take, drop, reverse, slice_index_or, slice_range, is_ok, if◌then◌else◌, IfOk};
+ghost use Rattle.std.specs.Prelude.{◌≡◌, ◌+◌, ◌-◌, ◌^◌, ◌<◌, ◌≤◌, ◌++◌, [], length, map, take, drop, reverse, slice_index_or, slice_range, is_ok, if◌then◌else◌, IfOk};
 ghost use Rattle.std.specs.declared.alloc.Global.{Global};
 ghost use Rattle.std.specs.Cmp.Lexicographic.{pointwise, lists_per, lists_equiv};
 ghost use Rattle.std.specs.Slice.Iter.{iter_rest, iter_steps};
 ghost use Rattle.std.specs.Vec.Iter.{into_iter_items, into_iter_steps};
 ghost use Rattle.std.specs.Iterator.Runs.{YieldsRefsInOrder, YieldsInOrder};
 ghost use Rattle.mlu_ring.specs.Tables.{weights, lsb};
+ghost use Rattle.mlu_point.specs.Orders.{weights_by};
 ghost use Rattle.mlu_point.specs.Vertices.{IsWeightAt};
 
+use super::order::BitOrder;
 use super::view::PointView;
-use mlu_ring::{Field, Sample};
+use mlu_ring::{Field, Lanewise, Meter, Sample};
 use rand::RngExt;
 use std::alloc::{AllocError, Global};
 use std::marker::Model;
@@ -130,6 +132,25 @@ impl<F: Copy> Point<F> {
         ensures rest { IfOk result (λ halves. halves.1 ≡ drop pos self.now) }
     {
         self.as_view().split_at(alloc, pos)
+    }
+}
+
+impl<F: Lanewise> Point<F> {
+    /// As [`PointView::fill_equality_table_serial`].
+    pub fn fill_equality_table_serial<M: Meter<F>>(
+        &self,
+        out: &mut [F],
+        order: BitOrder,
+        scale: F,
+        meter: &mut M,
+    )
+        requires { length out.old ≡ 2 ^ length self.now }
+        ensures table { out.new ≡ map (λ w. F.ring.product scale w) (weights_by order F.ring self.now) }
+        ensures made { M.made meter.new ≡ M.made meter.old + (2 ^ length self.now - 1) }
+        ensures groups { M.groups meter.new ≡ M.groups meter.old }
+    {
+        self.as_view()
+            .fill_equality_table_serial(out, order, scale, meter);
     }
 }
 

@@ -23,7 +23,7 @@ fn split_by_coordinate<R: PrimeCharacteristicRing>(low: &mut [R], high: &mut [R]
 }
 
 /// The coordinate that reads the top bit of an index, and the others.
-fn split_top<R: Copy>(coords: &[R], order: BitOrder) -> Option<(&R, &[R])>
+pub(super) fn split_top<R: Copy>(coords: &[R], order: BitOrder) -> Option<(&R, &[R])>
     ensures split { MatchOption result (length coords.now ≡ 0) (λ split. coords.now ≡ with_top order split.0.now split.1.now) }
     ensures others { MatchOption result (length coords.now ≡ 0) (λ split. length coords.now ≡ length split.1.now + 1) }
 {

@@ -2,10 +2,11 @@
 ghost use Rattle.std.specs.Prelude.{◌≡◌, ⊤, [], ◌<◌, length, slice_index_or};
 
 use super::coordinates::{reversed, subrange};
+use super::metered::fill_by_meter;
 use super::order::BitOrder;
 use super::owned::Point;
 use super::table::{equality_table, weight_at};
-use mlu_ring::Field;
+use mlu_ring::{Field, Lanewise, Meter};
 use std::alloc::{AllocError, Global};
 use std::ops::{Index, Range};
 use std::slice;
@@ -135,6 +136,29 @@ impl<'a, F: Copy> PointView<'a, F> {
         let first = Vec::from_slice(alloc, first)?;
         let rest = Vec::from_slice(alloc, rest)?;
         Ok((Point::new(first), Point::new(rest)))
+    }
+}
+
+impl<F: Lanewise> PointView<'_, F> {
+    ghost use Rattle.std.specs.Prelude.{◌≡◌, ◌+◌, ◌-◌, ◌^◌, length, map};
+    ghost use Rattle.mlu_point.specs.Orders.{weights_by};
+    ghost use Rattle.mlu_point.specs.Views.{coordinates};
+
+    /// Writes the scale times each weight, in the order, by `2^n - 1` products of the meter and none
+    /// else. Asks for `2^n` places, where there are `n` coordinates.
+    pub fn fill_equality_table_serial<M: Meter<F>>(
+        &self,
+        out: &mut [F],
+        order: BitOrder,
+        scale: F,
+        meter: &mut M,
+    )
+        requires { length out.old ≡ 2 ^ length (coordinates self.now) }
+        ensures table { out.new ≡ map (λ w. F.ring.product scale w) (weights_by order F.ring (coordinates self.now)) }
+        ensures made { M.made meter.new ≡ M.made meter.old + (2 ^ length (coordinates self.now) - 1) }
+        ensures groups { M.groups meter.new ≡ M.groups meter.old }
+    {
+        fill_by_meter(out, self.coords, order, scale, meter);
     }
 }
 

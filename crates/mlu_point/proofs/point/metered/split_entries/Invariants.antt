@@ -1,0 +1,13 @@
+use Rattle.std.proofs.Common.{◌≡◌, ℕ, ◌+◌, ◌<◌, ◌≤◌, get_or}
+use Rattle.mlu_point.proofs.point.metered.split_entries.Given as goal
+
+abbrev pub invariant-loop-i : goal.invariant-loop-i
+invariant-loop-i g l =
+    let ring = g.F.Additive.ring in
+    record {
+      upper : (k : ℕ) (d : g.row.F.Denot) → k < l.i → get_or l.high k d ≡ ring.product (get_or l.fn.low k d) l.coordinate;
+      lower : (k : ℕ) (d : g.row.F.Denot) → k < l.i → get_or l.low k d ≡ ring.minus (get_or l.fn.low k d) (ring.product (get_or l.fn.low k d) l.coordinate);
+      rest : (k : ℕ) (d : g.row.F.Denot) → l.i ≤ k → get_or l.low k d ≡ get_or l.fn.low k d;
+      made : g.M.Meter.made l.meter ≡ g.M.Meter.made l.initial.meter + l.i;
+      groups : g.M.Meter.groups l.meter ≡ g.M.Meter.groups l.initial.meter;
+    }
