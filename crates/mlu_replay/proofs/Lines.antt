@@ -1,7 +1,9 @@
 -- Lines as they are read one by one, and bytes as they are written one after the other.
 use Rattle.std.proofs.Common.{◌≡◌, ◌≢◌, ℕ, ◌+◌, Bool, true, false, eqb, cond, List, [], ◌∷◌, ◌++◌, Option, None, Some, IfSome, Result, Ok, Err, OnOk, codes, refl, ap, ◌∙◌, subst, arith, append_assoc}
 use Rattle.std.specs.Io.BufRead.{drop_through, DropsThrough}
-use Rattle.mlu_replay.specs.Counts.{Grows, IsGiven, line_count}
+use Rattle.std.specs.Io.KnownBytes.{Appends}
+use Rattle.mlu_replay_calls.specs.Words.{first_word}
+use Rattle.mlu_replay.specs.Counts.{Grows, TellsDiffering, differ_line, line_count}
 
 -- so many lines were read
 abbrev pub HasRead : Option (List ℕ) → Option (List ℕ) → ℕ → Type 0
@@ -34,6 +36,6 @@ Grows-on (Some xs) (Some ys) None first then = absurd then.1
 Grows-on (Some xs) (Some ys) (Some zs) first then = (first.0 ++ then.0, then.1 ∙ ap (λ l. l ++ then.0) first.1 ∙ append_assoc xs first.0 then.0)
 
 -- a line whose answer was written as another
-pub IsGiven-written : {T E : Type 0} (Q : Type 0) (result : Result T E) (line asked given answer : List ℕ) (P : List ℕ → List ℕ → List ℕ → Type 0) → line ≡ asked ++ (codes " = " ++ given) → given ≢ answer → OnOk result (P asked given answer) → OnOk result (Q → IsGiven line P)
-IsGiven-written Q (Ok x) line asked given answer P parts differ written = λ _. (asked, given, answer, parts, differ, written)
-IsGiven-written Q (Err e) line asked given answer P parts differ written = tt
+pub TellsDiffering-written : {T E : Type 0} (Q : Type 0) (result : Result T E) (number : ℕ) (line asked given answer : List ℕ) (old new : Option (List ℕ)) → line ≡ asked ++ (codes " = " ++ given) → given ≢ answer → OnOk result (Appends old new (differ_line number (first_word asked) given answer)) → OnOk result (Q → TellsDiffering number line old new)
+TellsDiffering-written Q (Ok x) number line asked given answer old new parts differ written = λ _. (asked, given, answer, parts, differ, written)
+TellsDiffering-written Q (Err e) number line asked given answer old new parts differ written = tt

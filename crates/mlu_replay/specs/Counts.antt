@@ -1,7 +1,10 @@
 -- How many cases there are, and what the program says of all of them.
 use Rattle.std.specs.Prelude.{◌≡◌, ◌≢◌, ℕ, ◌+◌, List, [], ◌∷◌, ◌++◌, ◌==◌, if◌then◌else◌, ◌⊎◌, None, IsUtf8, codes, decimal}
+use Rattle.mlu_replay_calls.specs.Faults.{reason_text}
+use Rattle.mlu_replay_calls.specs.Words.{first_word}
 use Rattle.mlu_replay_calls.specs.declared.fault.Reason.{Reason}
 use Rattle.mlu_replay_calls.specs.declared.fault.Reason.TheVariants.{Text, Equals}
+use Rattle.mlu_replay.specs.declared.replay.Tally.{Tally}
 use Rattle.mlu_replay.specs.declared.stop.Stop.{Stop}
 use Rattle.mlu_replay.specs.declared.stop.Stop.TheVariants.{Read, Memory, Write}
 use Rattle.std.specs.Str.Pattern.{FindsText}
@@ -31,13 +34,18 @@ differ_line number op given answer =
 abbrev pub unknown_line : ℕ → List ℕ → List ℕ
 unknown_line number reason = codes "line " ++ (decimal number ++ (codes ": unknown: " ++ (reason ++ codes "\n")))
 
--- some answer other than the given one, which ends the line
-abbrev pub IsGiven : List ℕ → (List ℕ → List ℕ → List ℕ → Type 0) → Type 0
-IsGiven line P = (asked given answer : List ℕ) × (line ≡ asked ++ (codes " = " ++ given)) × (given ≢ answer) × P asked given answer
+-- the lines that are no case, or one whose answers differ
+abbrev pub disagreeing : Tally → ℕ
+disagreeing tally = tally.differ + tally.unknown
 
--- some reason
-abbrev pub IsUnknown : (Reason → Type 0) → Type 0
-IsUnknown P = (reason : Reason) × P reason
+-- the line is written for a case whose given answer, which ends it, is not the library's
+abbrev pub TellsDiffering : ℕ → List ℕ → Option (List ℕ) → Option (List ℕ) → Type 0
+TellsDiffering number line old new =
+    (asked given answer : List ℕ) × (line ≡ asked ++ (codes " = " ++ given)) × (given ≢ answer) × Appends old new (differ_line number (first_word asked) given answer)
+
+-- the line is written for one that is no case, with some reason
+abbrev pub TellsUnknown : ℕ → Option (List ℕ) → Option (List ℕ) → Type 0
+TellsUnknown number old new = (reason : Reason) × Appends old new (unknown_line number (reason_text reason))
 
 -- why a line is no case: it is no text, or has nowhere an equals sign between spaces
 abbrev pub IsNoCase : List ℕ → Reason → Type 0

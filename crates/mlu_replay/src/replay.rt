@@ -3,7 +3,7 @@ ghost use Rattle.std.specs.Prelude.{◌≡◌, ◌≢◌, ◌+◌, ◌<◌, ◌�
 ghost use Rattle.std.specs.Io.KnownBytes.{Appends, IsAtEnd};
 ghost use Rattle.std.specs.IoError.{error_kind};
 ghost use Rattle.std.specs.Io.BufRead.{DropsThrough, first_piece};
-ghost use Rattle.mlu_replay.specs.Counts.{Grows, GrowsTo, IsGiven, IsNoCase, IsUnknown, count_line, differ_line, unknown_line, line_count};
+ghost use Rattle.mlu_replay.specs.Counts.{Grows, GrowsTo, IsNoCase, TellsDiffering, TellsUnknown, count_line, differ_line, disagreeing, line_count, unknown_line};
 ghost use Rattle.mlu_replay_calls.specs.Faults.{reason_text};
 ghost use Rattle.mlu_replay_calls.specs.Words.{first_word};
 
@@ -43,20 +43,20 @@ impl Tally {
 pub fn replay<R: BufRead, W: Write>(
     alloc: Global,
     input: &mut R,
-    output: &mut W,
+    out: &mut W,
 ) -> Result<Tally, Stop>
     ensures lines { IfOk result (λ tally. IfSome (R.remaining input.old) (λ bytes. tally.compared + tally.unknown ≡ line_count bytes)) }
     ensures within { IfOk result (λ tally. tally.differ ≤ tally.compared) }
-    ensures last { IfOk result (λ tally. GrowsTo (W.contents output.old) (W.contents output.new) (count_line tally.compared tally.differ tally.unknown)) }
+    ensures last { IfOk result (λ tally. GrowsTo (W.contents out.old) (W.contents out.new) (count_line tally.compared tally.differ tally.unknown)) }
 {
     let mut tally = Tally::default();
     let mut line = Vec::new(alloc);
     for lines in 0..u64::MAX {
         if !next_line(input, &mut line)? {
-            write_count(tally, output)?;
+            write_count(tally, out)?;
             return Ok(tally);
         }
-        replay_line(alloc, lines + 1, &line, &mut tally, output)?;
+        replay_line(alloc, lines + 1, &line, &mut tally, out)?;
     }
     Err(Stop::Read)
 }
@@ -127,16 +127,16 @@ fn replay_line<W: Write>(
     number: u64,
     line: &[u8],
     tally: &mut Tally,
-    output: &mut W,
+    out: &mut W,
 ) -> Result<(), Stop>
     requires within { tally.old.differ ≤ tally.old.compared }
     requires fits { tally.old.compared + tally.old.unknown + 1 < 2 ^ 64 }
     ensures one { IfOk result (λ _. tally.new.compared + tally.new.unknown ≡ tally.old.compared + tally.old.unknown + 1) }
     ensures within { IfOk result (λ _. tally.new.differ ≤ tally.new.compared) }
-    ensures same { OnOk result (tally.new.differ ≡ tally.old.differ → tally.new.unknown ≡ tally.old.unknown → Appends (W.contents output.old) (W.contents output.new) []) }
-    ensures differs { OnOk result (tally.new.differ ≢ tally.old.differ → IsGiven line.now (λ asked given answer. Appends (W.contents output.old) (W.contents output.new) (differ_line number (first_word asked) given answer))) }
-    ensures unknown { OnOk result (tally.new.unknown ≢ tally.old.unknown → IsUnknown (λ reason. Appends (W.contents output.old) (W.contents output.new) (unknown_line number (reason_text reason)))) }
-    ensures grows { OnOk result (Grows (W.contents output.old) (W.contents output.new)) }
+    ensures same { OnOk result (disagreeing tally.new ≡ disagreeing tally.old → Appends (W.contents out.old) (W.contents out.new) []) }
+    ensures differs { OnOk result (tally.new.differ ≢ tally.old.differ → TellsDiffering number line.now (W.contents out.old) (W.contents out.new)) }
+    ensures unknown { OnOk result (tally.new.unknown ≢ tally.old.unknown → TellsUnknown number (W.contents out.old) (W.contents out.new)) }
+    ensures grows { OnOk result (Grows (W.contents out.old) (W.contents out.new)) }
     ensures stop { IfErr result (λ stop. stop ≢ Stop.Read) }
 {
     match answered(alloc, line) {
@@ -147,11 +147,11 @@ fn replay_line<W: Write>(
                 return Ok(());
             }
             tally.differ += 1;
-            report_differing(number, case, answer, output)
+            report_differing(number, case, answer, out)
         }
         Err(Fault::Unknown(reason)) => {
             tally.unknown += 1;
-            report_unknown(number, reason, output)
+            report_unknown(number, reason, out)
         }
         Err(Fault::Memory) => Err(Stop::Memory),
     }
@@ -162,26 +162,26 @@ fn report_differing<W: Write>(
     number: u64,
     case: Case<'_>,
     answer: &str,
-    output: &mut W,
+    out: &mut W,
 ) -> Result<(), Stop>
-    ensures line { OnOk result (Appends (W.contents output.old) (W.contents output.new) (differ_line number (first_word case.entry.asked.now) case.entry.given.now answer.now)) }
+    ensures line { OnOk result (Appends (W.contents out.old) (W.contents out.new) (differ_line number (first_word case.entry.asked.now) case.entry.given.now answer.now)) }
     ensures stop { IfErr result (λ stop. stop ≡ Stop.Write) }
 {
     let (op, given) = (case.op(), case.given);
     writeln!(
-        output,
+        out,
         "line {number}: {op} differs: given {given}, answered {answer}"
     )
     .map_err(|_| Stop::Write)
 }
 
 /// Writes the line for what is no case.
-fn report_unknown<W: Write>(number: u64, reason: Reason, output: &mut W) -> Result<(), Stop>
-    ensures line { OnOk result (Appends (W.contents output.old) (W.contents output.new) (unknown_line number (reason_text reason))) }
+fn report_unknown<W: Write>(number: u64, reason: Reason, out: &mut W) -> Result<(), Stop>
+    ensures line { OnOk result (Appends (W.contents out.old) (W.contents out.new) (unknown_line number (reason_text reason))) }
     ensures stop { IfErr result (λ stop. stop ≡ Stop.Write) }
 {
     let reason = reason.text();
-    writeln!(output, "line {number}: unknown: {reason}").map_err(|_| Stop::Write)
+    writeln!(out, "line {number}: unknown: {reason}").map_err(|_| Stop::Write)
 }
 
 /// The case of a line, and this library's answer.
@@ -194,8 +194,8 @@ fn answered(alloc: Global, line: &[u8]) -> Result<(Case<'_>, String), Fault>
 }
 
 /// Writes the last line, and sees that no line is held back.
-fn write_count<W: Write>(tally: Tally, output: &mut W) -> Result<(), Stop>
-    ensures last { OnOk result (Appends (W.contents output.old) (W.contents output.new) (count_line tally.compared tally.differ tally.unknown)) }
+fn write_count<W: Write>(tally: Tally, out: &mut W) -> Result<(), Stop>
+    ensures last { OnOk result (Appends (W.contents out.old) (W.contents out.new) (count_line tally.compared tally.differ tally.unknown)) }
     ensures stop { IfErr result (λ stop. stop ≡ Stop.Write) }
 {
     let Tally {
@@ -204,11 +204,11 @@ fn write_count<W: Write>(tally: Tally, output: &mut W) -> Result<(), Stop>
         unknown,
     } = tally;
     writeln!(
-        output,
+        out,
         "{compared} compared, {differ} differ, {unknown} unknown"
     )
     .map_err(|_| Stop::Write)?;
-    output.flush().map_err(|_| Stop::Write)
+    out.flush().map_err(|_| Stop::Write)
 }
 
 #[cfg(test)]

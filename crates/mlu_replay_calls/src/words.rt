@@ -1,5 +1,5 @@
 //! The words of a case, read one by one.
-ghost use Rattle.std.specs.Prelude.{◌≡◌, ◌≢◌, None, Some, codes, IsOkAnd, MatchResult};
+ghost use Rattle.std.specs.Prelude.{◌≡◌, ◌≢◌, None, Some, codes, IsOkAnd, IfOk, IfErr};
 ghost use Rattle.mlu_replay_calls.specs.Words.{Takes, IsNumber, IsChoice, words_left};
 
 use crate::decimals::decimal;
@@ -54,7 +54,8 @@ impl<'a> Words<'a> {
     /// # Errors
     /// Where one is left.
     pub fn end(&self) -> Result<(), Reason>
-        ensures { MatchResult result (λ _. words_left self.entry.now ≡ None) (λ reason. (reason ≡ Reason.Surplus) × (words_left self.entry.now ≢ None)) }
+        ensures done { IfOk result (λ _. words_left self.entry.now ≡ None) }
+        ensures surplus { IfErr result (λ reason. (reason ≡ Reason.Surplus) × (words_left self.entry.now ≢ None)) }
     {
         match self.rest {
             Some(_) => Err(Reason::Surplus),

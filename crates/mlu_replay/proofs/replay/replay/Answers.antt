@@ -11,5 +11,5 @@ loop-lines-preserved g c =
       count = c.in_ok-replay_line.ensures.one ∙ ap (λ n. n + 1) c.loop-lines.invariant.count;
       within = c.in_ok-replay_line.ensures.within;
       read = HasRead-line (remaining c.args.input.now) (remaining c.loop-lines.input) (remaining c.next_line.new.input) c.loop-lines.lines c.loop-lines.invariant.read c.in_ok-next_line.ensures.rest (c.in_ok-next_line.ensures.more c.if-not-branch.false);
-      grows = Grows-on (contents c.args.output.now) (contents c.loop-lines.output) (contents c.replay_line.new.output) c.loop-lines.invariant.grows c.in_ok-replay_line.ensures.grows;
+      grows = Grows-on (contents c.args.out.now) (contents c.loop-lines.out) (contents c.replay_line.new.out) c.loop-lines.invariant.grows c.in_ok-replay_line.ensures.grows;
     }

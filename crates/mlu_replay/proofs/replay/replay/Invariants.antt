@@ -8,5 +8,5 @@ invariant-loop-lines g l = record {
   count : l.tally.compared + l.tally.unknown ≡ l.lines;
   within : l.tally.differ ≤ l.tally.compared;
   read : HasRead (g.R.Read.remaining l.initial.input) (g.R.Read.remaining l.input) l.lines;
-  grows : Grows (g.W.Write.contents l.initial.output) (g.W.Write.contents l.output);
+  grows : Grows (g.W.Write.contents l.initial.out) (g.W.Write.contents l.out);
 }
