@@ -17,3 +17,5 @@ pub mod Batches
 pub mod Halves
 pub mod Blocks
 pub mod Groups
+pub mod JoinedTables
+pub mod Chunks

@@ -1,6 +1,7 @@
 -- What a table leaves in an output.
 use Rattle.std.proofs.Common.{◌≡◌, ℕ, zero, suc, ◌≤◌, Bool, true, false, List, [], ◌∷◌, ◌++◌, length, get_or, take, drop, set, refl, ap, ◌∙◌, arith}
 use Rattle.std.specs.Prelude.{if◌then◌else◌}
+use Rattle.std.proofs.Math.Seq.{take-append_seam}
 use Rattle.std.specs.Simd.Lanes.{zip2}
 use Rattle.mlu_ring.specs.Ring.{Ring}
 use Rattle.mlu_ring.specs.Matrices.{left_by}
@@ -24,3 +25,7 @@ module _ {R : Type 0} (ring : Ring R) where
   left-one true (x ∷ []) o t r h at is = ap (λ y. y ∷ []) (is ∙ ap (λ z. ring.sum z t) at)
   left-one false (x ∷ []) o t r h at is = ap (λ y. y ∷ []) is
   left-one adds (x ∷ y ∷ more) o t r h at is = absurd (omega arith)
+
+-- what a vector holds once a slice of all its places was written
+pub written-back : {A : Type 0} (out items : List A) (n : ℕ) → n ≡ length out → take n (out ++ drop (length out) items) ≡ out
+written-back out items n all = ap (λ k. take k (out ++ drop (length out) items)) all ∙ take-append_seam out (drop (length out) items)

@@ -18,7 +18,7 @@ module _ {R : Type 0} (ring : Ring R) (laws : RingLaws ring) where
   infixl 60 ◌⊗◌
   open ring use {sum as ◌⊕◌, product as ◌⊗◌, minus as ◌⊖◌, zero as 𝟘, one as 𝟙, negation as neg}
 
-  weights_by-shares : (order : BitOrder) (c : R) (p : List R) → weights_by order ring (with_top order c p) ≡ map (λ w. (𝟙 ⊖ c) ⊗ w) (weights_by order ring p) ++ map (λ w. c ⊗ w) (weights_by order ring p)
+  pub weights_by-shares : (order : BitOrder) (c : R) (p : List R) → weights_by order ring (with_top order c p) ≡ map (λ w. (𝟙 ⊖ c) ⊗ w) (weights_by order ring p) ++ map (λ w. c ⊗ w) (weights_by order ring p)
   weights_by-shares Msb c p = weights-first ring laws c p
   weights_by-shares Lsb c p = lsb-last ring laws p c
 
@@ -27,7 +27,7 @@ module _ {R : Type 0} (ring : Ring R) (laws : RingLaws ring) where
   table-doubled order s c p low whole is filled =
       rw is (table-shares ring laws s c (weights_by order ring p) low (weights_by order ring (with_top order c p)) filled (weights_by-shares order c p))
 
-  weights_by-none : (order : BitOrder) → weights_by order ring [] ≡ 𝟙 ∷ []
+  pub weights_by-none : (order : BitOrder) → weights_by order ring [] ≡ 𝟙 ∷ []
   weights_by-none Msb = weights-none ring laws
   weights_by-none Lsb = lsb-none ring laws
 

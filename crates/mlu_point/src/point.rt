@@ -1,5 +1,6 @@
 //! Points, owned and borrowed: the same calls, with one body each.
 
+mod chunks;
 mod coordinates;
 mod evaluation;
 mod metered;

@@ -25,6 +25,8 @@ enum FieldRow {
     Growth,
     Tables,
     ThreeCoordinates,
+    CountedTables,
+    Chunks,
     ManyCoordinates,
     MadePoints,
     SideBySide,
@@ -57,6 +59,8 @@ fn holds_over<R: Field + Sample>(alloc: Global, row: FieldRow) -> Result<bool, A
         FieldRow::Growth => points::growth::<R>(alloc),
         FieldRow::Tables => tables::rows::<R>(alloc),
         FieldRow::ThreeCoordinates => tables::three_coordinates::<R>(alloc),
+        FieldRow::CountedTables => tables::counted_tables::<R>(alloc),
+        FieldRow::Chunks => tables::chunks::<R>(alloc),
         FieldRow::ManyCoordinates => tables::many_coordinates::<R>(alloc),
         FieldRow::MadePoints => evaluations::made_points::<R>(alloc),
         FieldRow::SideBySide => evaluations::side_by_side::<R>(alloc),
@@ -153,6 +157,16 @@ fn everywhere(alloc: Global, row: Row) -> Result<bool, AllocError> {
     )
 }
 
+/// Whether the row holds at residues of lane widths 1, 2 and 4, and at quartics.
+fn in_narrow_lanes(alloc: Global, row: FieldRow) -> Result<bool, AllocError> {
+    Ok(
+        residues::<1>(alloc, Row::Field(row))?
+            && residues::<2>(alloc, Row::Field(row))?
+            && residues::<4>(alloc, Row::Field(row))?
+            && quartics(alloc, Row::Field(row))?,
+    )
+}
+
 /// Whether the row holds at each field, and at products of no copy and of nine.
 fn everywhere_and_in_products(alloc: Global, row: FieldRow) -> Result<bool, AllocError> {
     Ok(everywhere(alloc, Row::Field(row))? && no_copies(alloc, row)? && nine_copies(alloc, row)?)
@@ -197,6 +211,18 @@ fn tables_of_points(rt: HostRuntime) -> Result<(), Fail> {
 #[test]
 fn tables_of_three_coordinates(rt: HostRuntime) -> Result<(), Fail> {
     assert!(rt; everywhere_and_in_products(rt.alloc(), FieldRow::ThreeCoordinates)?);
+    Ok(())
+}
+
+#[test]
+fn tables_with_counted_products(rt: HostRuntime) -> Result<(), Fail> {
+    assert!(rt; in_narrow_lanes(rt.alloc(), FieldRow::CountedTables)?);
+    Ok(())
+}
+
+#[test]
+fn tables_in_chunks(rt: HostRuntime) -> Result<(), Fail> {
+    assert!(rt; in_narrow_lanes(rt.alloc(), FieldRow::Chunks)?);
     Ok(())
 }
 

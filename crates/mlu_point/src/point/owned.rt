@@ -1,5 +1,5 @@
 //! Points that own their coordinates.
-ghost use Rattle.std.specs.Prelude.{◌≡◌, ◌+◌, ◌-◌, ◌^◌, ◌<◌, ◌≤◌, ◌++◌, [], length, map, take, drop, reverse, slice_index_or, slice_range, is_ok, if◌then◌else◌, IfOk};
+ghost use Rattle.std.specs.Prelude.{◌≡◌, ◌+◌, ◌-◌, ◌^◌, ◌<◌, ◌≤◌, ◌++◌, [], length, map, take, drop, reverse, slice_index_or, slice_range, is_ok, if◌then◌else◌, IfOk, IsOk, OnErr};
 ghost use Rattle.std.specs.declared.alloc.Global.{Global};
 ghost use Rattle.std.specs.Cmp.Lexicographic.{pointwise, lists_per, lists_equiv};
 ghost use Rattle.std.specs.Slice.Iter.{iter_rest, iter_steps};
@@ -151,6 +151,46 @@ impl<F: Lanewise> Point<F> {
     {
         self.as_view()
             .fill_equality_table_serial(out, order, scale, meter);
+    }
+
+    /// As [`PointView::fill_equality_table_in_chunks`].
+    pub fn fill_equality_table_in_chunks<M: Meter<F>>(
+        &self,
+        alloc: Global,
+        out: &mut [F],
+        order: BitOrder,
+        scale: F,
+        low_variables: usize,
+        meter: &mut M,
+    ) -> Result<(), AllocError>
+        requires places { length out.old ≡ 2 ^ length self.now }
+        requires low { low_variables ≤ length self.now }
+        ensures table { IfOk result (λ _. out.new ≡ map (F.ring.product scale) (weights_by order F.ring self.now)) }
+        ensures kept { OnErr result (out.new ≡ out.old) }
+        ensures made { M.made meter.new ≡ M.made meter.old + (if is_ok result then 2 ^ length self.now - 1 else 0) }
+        ensures groups { M.groups meter.new ≡ M.groups meter.old }
+        ensures whole { low_variables ≡ length self.now → IsOk result }
+    {
+        self.as_view()
+            .fill_equality_table_in_chunks(alloc, out, order, scale, low_variables, meter)
+    }
+
+    /// As [`PointView::equality_weights_metered`].
+    pub fn equality_weights_metered<M: Meter<F>>(
+        &self,
+        alloc: Global,
+        order: BitOrder,
+        low_variables: usize,
+        meter: &mut M,
+    ) -> Result<Vec<F>, AllocError>
+        requires fits { 2 ^ length self.now < 2 ^ 64 }
+        requires low { low_variables ≤ length self.now }
+        ensures table { IfOk result (λ table. table.items ≡ weights_by order F.ring self.now) }
+        ensures made { M.made meter.new ≡ M.made meter.old + (if is_ok result then 2 ^ length self.now - 1 else 0) }
+        ensures groups { M.groups meter.new ≡ M.groups meter.old }
+    {
+        self.as_view()
+            .equality_weights_metered(alloc, order, low_variables, meter)
     }
 }
 

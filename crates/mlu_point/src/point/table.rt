@@ -6,7 +6,6 @@ ghost use Rattle.mlu_point.specs.Vertices.{IsWeightAt};
 
 use super::order::BitOrder;
 use mlu_ring::PrimeCharacteristicRing;
-use std::alloc::{AllocError, Global};
 
 /// Splits each weight of `low` by a coordinate: its share at 1 goes to `high`, and the rest stays.
 #[inline]
@@ -53,21 +52,6 @@ pub fn fill_equality_table<R: PrimeCharacteristicRing>(
             split_by_coordinate(low, high, *coordinate);
         }
     }
-}
-
-/// The weights of all vertices, in the order and in one growth of exactly `2^n` elements. Asks that
-/// `2^n` fits `usize`.
-pub(super) fn equality_table<R: PrimeCharacteristicRing>(
-    alloc: Global,
-    coords: &[R],
-    order: BitOrder,
-) -> Result<Vec<R>, AllocError>
-    requires { 2 ^ length coords.now < 2 ^ 64 }
-    ensures { IfOk result (λ table. table.items ≡ weights_by order R.ring coords.now) }
-{
-    let mut table = R::zero_vec(alloc, 1 << coords.len())?;
-    fill_equality_table(table.as_mut_slice(), coords, order, R::ONE);
-    Ok(table)
 }
 
 /// The weight of one vertex, and `None` exactly where it is `2^n` or more.

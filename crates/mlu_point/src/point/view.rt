@@ -1,11 +1,12 @@
 //! Points that borrow their coordinates.
 ghost use Rattle.std.specs.Prelude.{◌≡◌, ⊤, [], ◌<◌, length, slice_index_or};
 
+use super::chunks::{equality_table, fill_in_chunks, weights_by_meter};
 use super::coordinates::{reversed, subrange};
 use super::metered::fill_by_meter;
 use super::order::BitOrder;
 use super::owned::Point;
-use super::table::{equality_table, weight_at};
+use super::table::weight_at;
 use mlu_ring::{Field, Lanewise, Meter};
 use std::alloc::{AllocError, Global};
 use std::ops::{Index, Range};
@@ -140,7 +141,7 @@ impl<'a, F: Copy> PointView<'a, F> {
 }
 
 impl<F: Lanewise> PointView<'_, F> {
-    ghost use Rattle.std.specs.Prelude.{◌≡◌, ◌+◌, ◌-◌, ◌^◌, length, map};
+    ghost use Rattle.std.specs.Prelude.{◌≡◌, ◌+◌, ◌-◌, ◌^◌, ◌<◌, ◌≤◌, length, map, IfOk, IsOk, OnErr, is_ok, if◌then◌else◌};
     ghost use Rattle.mlu_point.specs.Orders.{weights_by};
     ghost use Rattle.mlu_point.specs.Views.{coordinates};
 
@@ -159,6 +160,59 @@ impl<F: Lanewise> PointView<'_, F> {
         ensures groups { M.groups meter.new ≡ M.groups meter.old }
     {
         fill_by_meter(out, self.coords, order, scale, meter);
+    }
+
+    /// Writes the scale times each weight, in the order, as `2^h` chunks of `2^low_variables` entries,
+    /// where `h` high coordinates are left: the first ones for [`BitOrder::Msb`], the last ones for
+    /// [`BitOrder::Lsb`]. The weights of these cost `2^h - 1` products of the meter, and each chunk
+    /// one less than it has entries, `2^n - 1` in all.
+    ///
+    /// Asks for `2^n` places, where there are `n` coordinates, and that `low_variables <= n`.
+    ///
+    /// # Errors
+    /// Where memory for the `2^h` weights is refused; nothing is written or multiplied then. None is
+    /// taken where `low_variables` is `n`.
+    pub fn fill_equality_table_in_chunks<M: Meter<F>>(
+        &self,
+        alloc: Global,
+        out: &mut [F],
+        order: BitOrder,
+        scale: F,
+        low_variables: usize,
+        meter: &mut M,
+    ) -> Result<(), AllocError>
+        requires places { length out.old ≡ 2 ^ length (coordinates self.now) }
+        requires low { low_variables ≤ length (coordinates self.now) }
+        ensures table { IfOk result (λ _. out.new ≡ map (F.ring.product scale) (weights_by order F.ring (coordinates self.now))) }
+        ensures kept { OnErr result (out.new ≡ out.old) }
+        ensures made { M.made meter.new ≡ M.made meter.old + (if is_ok result then 2 ^ length (coordinates self.now) - 1 else 0) }
+        ensures groups { M.groups meter.new ≡ M.groups meter.old }
+        ensures whole { low_variables ≡ length (coordinates self.now) → IsOk result }
+    {
+        fill_in_chunks(alloc, out, self.coords, order, scale, low_variables, meter)
+    }
+
+    /// The weights of all vertices, in the order, filled as
+    /// [`PointView::fill_equality_table_in_chunks`] fills them and by as many products. Asks that
+    /// `2^n` fits `usize`, where there are `n` coordinates, and that `low_variables <= n`.
+    ///
+    /// # Errors
+    /// Where the one growth of exactly `2^n` elements or the memory of the chunks is refused; nothing
+    /// is multiplied then.
+    pub fn equality_weights_metered<M: Meter<F>>(
+        &self,
+        alloc: Global,
+        order: BitOrder,
+        low_variables: usize,
+        meter: &mut M,
+    ) -> Result<Vec<F>, AllocError>
+        requires fits { 2 ^ length (coordinates self.now) < 2 ^ 64 }
+        requires low { low_variables ≤ length (coordinates self.now) }
+        ensures table { IfOk result (λ table. table.items ≡ weights_by order F.ring (coordinates self.now)) }
+        ensures made { M.made meter.new ≡ M.made meter.old + (if is_ok result then 2 ^ length (coordinates self.now) - 1 else 0) }
+        ensures groups { M.groups meter.new ≡ M.groups meter.old }
+    {
+        weights_by_meter(alloc, self.coords, order, low_variables, meter)
     }
 }
 

@@ -1,8 +1,8 @@
 //! The weights of points.
-ghost use Rattle.std.specs.Prelude.{◌≡◌, ◌<◌};
+ghost use Rattle.std.specs.Prelude.{◌≡◌, ◌<◌, ◌≤◌, length};
 
-use mlu_point::point::{Point, PointView};
-use mlu_ring::{Additive, Field, PrimeCharacteristicRing, Sample};
+use mlu_point::point::{BitOrder, Point, PointView};
+use mlu_ring::{Additive, Counter, Field, PrimeCharacteristicRing, Sample, Unmetered};
 use mlu_test_support::draws::drawn;
 use mlu_test_support::numbers::{are, element, elements};
 use mlu_test_support::plain::table;
@@ -38,6 +38,64 @@ pub fn three_coordinates<R: Field>(alloc: Global) -> Result<bool, AllocError> {
         &[-8, 16, 12, -24, 10, -20, -15, 30],
     );
     Ok(msb && lsb)
+}
+
+/// The weights of (2, 3, 5) in an order, with so many low coordinates, and seven products.
+fn counted<R: Field>(
+    alloc: Global,
+    order: BitOrder,
+    low_variables: usize,
+    weights: &[i32],
+) -> Result<bool, AllocError>
+    requires { low_variables ≤ 3 }
+{
+    let coordinates: Vec<R> = elements(alloc, &[2, 3, 5])?;
+    let view = PointView::new(coordinates.as_slice());
+    let point: Point<R> = Point::new(elements(alloc, &[2, 3, 5])?);
+    let mut meter = Counter::new();
+    let owned = point.equality_weights_metered(alloc, order, low_variables, &mut meter)?;
+    let first = meter.made() == 7 && meter.groups() == 0;
+    let borrowed = view.equality_weights_metered(alloc, order, low_variables, &mut meter)?;
+    let both = are(&owned, weights) && are(&borrowed, weights);
+    Ok(first && both && meter.made() == 14 && meter.groups() == 0)
+}
+
+/// The tables of three coordinates, with their products counted.
+pub fn counted_tables<R: Field>(alloc: Global) -> Result<bool, AllocError> {
+    let msb = [-8, 10, 12, -15, 16, -20, -24, 30];
+    let lsb = [-8, 16, 12, -24, 10, -20, -15, 30];
+    for low_variables in 0..4 {
+        if !counted::<R>(alloc, BitOrder::Msb, low_variables, &msb)?
+            || !counted::<R>(alloc, BitOrder::Lsb, low_variables, &lsb)?
+        {
+            return Ok(false);
+        }
+    }
+    Ok(true)
+}
+
+/// A table with a scale in two chunks, one of no coordinate, and one whose products are not shown.
+pub fn chunks<R: Field>(alloc: Global) -> Result<bool, AllocError> {
+    let point: Point<R> = Point::new(elements(alloc, &[2, 3])?);
+    let mut out: Vec<R> = elements(alloc, &[9, 9, 9, 9])?;
+    let mut meter = Counter::new();
+    point.fill_equality_table_in_chunks(
+        alloc,
+        out.as_mut_slice(),
+        BitOrder::Msb,
+        element(5),
+        1,
+        &mut meter,
+    )?;
+    let two = are(&out, &[10, -15, -20, 30]) && meter.made() == 3 && meter.groups() == 0;
+    let none: PointView<'_, R> = PointView::new(&[]);
+    let mut meter = Counter::new();
+    let one = are(
+        &none.equality_weights_metered(alloc, BitOrder::Lsb, 0, &mut meter)?,
+        &[1],
+    );
+    let uncounted = point.equality_weights_metered(alloc, BitOrder::Lsb, 1, &mut Unmetered::new())?;
+    Ok(two && one && meter.made() == 0 && are(&uncounted, &[2, -4, -3, 6]))
 }
 
 /// Two to a power.
