@@ -69,8 +69,8 @@ fn fill_chunks<F: Lanewise, M: Meter<F>>(
     }
 }
 
-/// Writes the scale times each weight, in the order, as a chunk for each weight of the high
-/// coordinates. The weights of these are the only memory, and none is taken where there are none.
+/// Writes the scale times each weight, in the order, a chunk for each weight of the high coordinates.
+/// Those weights are the only memory, and none is taken where there is no such coordinate.
 pub(super) fn fill_in_chunks<F: Lanewise, M: Meter<F>>(
     alloc: Global,
     out: &mut [F],
@@ -98,8 +98,8 @@ pub(super) fn fill_in_chunks<F: Lanewise, M: Meter<F>>(
     Ok(())
 }
 
-/// The weights of all vertices, in the order and in one growth of exactly `2^n` elements, filled as
-/// [`fill_in_chunks`] fills them. Asks that `2^n` fits `usize`.
+/// The weights of all vertices, in the order and in one growth of exactly `2^n` elements, by
+/// [`fill_in_chunks`]. Asks that `2^n` fits `usize`.
 pub(super) fn weights_by_meter<F: Lanewise, M: Meter<F>>(
     alloc: Global,
     coords: &[F],
@@ -119,8 +119,8 @@ pub(super) fn weights_by_meter<F: Lanewise, M: Meter<F>>(
     Ok(table)
 }
 
-/// The weights of all vertices, in the order and in one growth of exactly `2^n` elements, with no
-/// number of the products. Asks that `2^n` fits `usize`.
+/// The weights of all vertices, in the order, by [`weights_by_meter`] in one chunk. Asks that `2^n` fits
+/// `usize`.
 pub(super) fn equality_table<F: Field>(
     alloc: Global,
     coords: &[F],

@@ -162,16 +162,16 @@ impl<F: Lanewise> PointView<'_, F> {
         fill_by_meter(out, self.coords, order, scale, meter);
     }
 
-    /// Writes the scale times each weight, in the order, as `2^h` chunks of `2^low_variables` entries,
-    /// where `h` high coordinates are left: the first ones for [`BitOrder::Msb`], the last ones for
-    /// [`BitOrder::Lsb`]. The weights of these cost `2^h - 1` products of the meter, and each chunk
-    /// one less than it has entries, `2^n - 1` in all.
+    /// Writes the scale times each weight, in the order, in chunks of `2^low_variables` entries. The
+    /// other coordinates are the high ones, the first for [`BitOrder::Msb`] and the last for
+    /// [`BitOrder::Lsb`]: each chunk begins with one of their weights. Takes `2^n - 1` products of the
+    /// meter and none else, where there are `n` coordinates.
     ///
-    /// Asks for `2^n` places, where there are `n` coordinates, and that `low_variables <= n`.
+    /// Asks for `2^n` places, and that `low_variables <= n`.
     ///
     /// # Errors
-    /// Where memory for the `2^h` weights is refused; nothing is written or multiplied then. None is
-    /// taken where `low_variables` is `n`.
+    /// Where memory for the weights of the high coordinates is refused; nothing is written or
+    /// multiplied then. None is taken where `low_variables` is `n`.
     pub fn fill_equality_table_in_chunks<M: Meter<F>>(
         &self,
         alloc: Global,
@@ -192,13 +192,13 @@ impl<F: Lanewise> PointView<'_, F> {
         fill_in_chunks(alloc, out, self.coords, order, scale, low_variables, meter)
     }
 
-    /// The weights of all vertices, in the order, filled as
-    /// [`PointView::fill_equality_table_in_chunks`] fills them and by as many products. Asks that
-    /// `2^n` fits `usize`, where there are `n` coordinates, and that `low_variables <= n`.
+    /// The weights of all vertices, in the order, as [`PointView::fill_equality_table_in_chunks`] makes
+    /// them: by `2^n - 1` products of the meter and none else. Asks that `2^n` fits `usize`, where there
+    /// are `n` coordinates, and that `low_variables <= n`.
     ///
     /// # Errors
-    /// Where the one growth of exactly `2^n` elements or the memory of the chunks is refused; nothing
-    /// is multiplied then.
+    /// Where the growth of exactly `2^n` elements or the memory of the chunks is refused; nothing is
+    /// multiplied then.
     pub fn equality_weights_metered<M: Meter<F>>(
         &self,
         alloc: Global,

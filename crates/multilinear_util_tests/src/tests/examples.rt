@@ -2,10 +2,12 @@
 use mlu_eq::{eval_base, fold_prefix_in_place};
 use mlu_ext::QuarticExtension;
 use mlu_lanes::{BabyBear, Lanes};
-use mlu_ring::{Additive, Field, PackedValue, PrimeCharacteristicRing, RowMajorMatrixView};
+use mlu_ring::{
+    Additive, Counter, Field, PackedValue, PrimeCharacteristicRing, RowMajorMatrixView,
+};
 use multilinear_util::eq_batch::eval_eq_batch;
 use multilinear_util::laws;
-use multilinear_util::point::Point;
+use multilinear_util::point::{BitOrder, Point};
 use multilinear_util::poly::Poly;
 use multilinear_util::split_eq::SplitEq;
 use std::test::Fail;
@@ -36,6 +38,10 @@ fn points_and_tables(rt: HostRuntime) -> Result<(), Fail> {
     assert_eq!(rt; point.num_variables(), 2);
     let table = point.equality_weights_msb(rt.alloc())?;
     assert_eq!(rt; table.last(), Some(&BabyBear::from_u32(6)));
+    let mut meter = Counter::new();
+    let in_chunks = point.equality_weights_metered(rt.alloc(), BitOrder::Msb, 1, &mut meter)?;
+    assert_eq!(rt; in_chunks.last(), table.last());
+    assert_eq!(rt; meter.made(), 3);
     Ok(())
 }
 
