@@ -33,7 +33,7 @@ module _ {R : Type 0} (ring : Ring R) (laws : RingLaws ring) where
   abbrev entry : List R → List R → ℕ → ℕ → R
   entry values scalars w x = sum_below ring w (λ i. get_or scalars i 𝟘 ⊗ weight ring (column ring values w i) x)
 
-  keeps : (s c w : R) → s ⊗ ((𝟙 ⊖ c) ⊗ w) ≡ (s ⊖ (s ⊗ c)) ⊗ w
+  pub keeps : (s c w : R) → s ⊗ ((𝟙 ⊖ c) ⊗ w) ≡ (s ⊖ (s ⊗ c)) ⊗ w
   keeps s c w = simp (laws.minus_is, laws.product_sum, sum_product ring laws, laws.one_product, product_negation ring laws, negation_product ring laws, laws.product_assoc)
 
   -- an entry at y of the points is one at x of the points without their first coordinate, if so it is for each scalar

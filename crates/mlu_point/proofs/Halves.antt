@@ -21,7 +21,7 @@ module _ {C R : Type 0} (ring : Ring R) (laws : RingLaws ring) (image : C → R)
   within_row h i n w size below = omega (arith, size, below)
 
   -- what is read of the first row is read of the values
-  first-row : (vs first : List C) (w s h i : ℕ) (c : C) → w ≡ s → first ≡ take (1 * w) vs → length vs ≡ suc h * s → i < s → image (get_or first i c) ≡ get_or (map image vs) i 𝟘
+  pub first-row : (vs first : List C) (w s h i : ℕ) (c : C) → w ≡ s → first ≡ take (1 * w) vs → length vs ≡ suc h * s → i < s → image (get_or first i c) ≡ get_or (map image vs) i 𝟘
   first-row vs first w s h i c width is size below =
       let inside : i < length vs = within_row h i (length vs) s size below in
       let row : i < 1 * w = omega (arith, below, width) in

@@ -18,4 +18,8 @@ pub mod Halves
 pub mod Blocks
 pub mod Groups
 pub mod JoinedTables
+pub mod Images
+pub mod PackedShares
+pub mod FilledColumns
 pub mod Chunks
+pub mod PackedChunks

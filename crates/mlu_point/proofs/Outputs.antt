@@ -1,8 +1,9 @@
 -- What a table leaves in an output.
-use Rattle.std.proofs.Common.{◌≡◌, ℕ, zero, suc, ◌≤◌, Bool, true, false, List, [], ◌∷◌, ◌++◌, length, get_or, take, drop, set, refl, ap, ◌∙◌, arith}
+use Rattle.std.proofs.Common.{not, nat_eq, ◌≡◌, ℕ, zero, suc, ◌≤◌, Bool, true, false, List, [], ◌∷◌, ◌++◌, length, get_or, take, drop, set, refl, ap, ◌∙◌, arith}
 use Rattle.std.specs.Prelude.{if◌then◌else◌}
 use Rattle.std.proofs.Math.Seq.{take-append_seam}
 use Rattle.std.specs.Simd.Lanes.{zip2}
+use Rattle.std.proofs.lemmas.Bool.{ne_eqb}
 use Rattle.mlu_ring.specs.Ring.{Ring}
 use Rattle.mlu_ring.specs.Matrices.{left_by}
 
@@ -25,6 +26,16 @@ module _ {R : Type 0} (ring : Ring R) where
   left-one true (x ∷ []) o t r h at is = ap (λ y. y ∷ []) (is ∙ ap (λ z. ring.sum z t) at)
   left-one false (x ∷ []) o t r h at is = ap (λ y. y ∷ []) is
   left-one adds (x ∷ y ∷ more) o t r h at is = absurd (omega arith)
+
+  -- the flag is a number, and 0 for false
+  pub left-added : (flag : ℕ) (out after t : List R) → (flag ≡ 0 → ⊥) → after ≡ zip2 ring.sum out t → after ≡ left_by ring (not (nat_eq flag 0)) out t
+  left-added flag out after t is made =
+      let set_flag : not (nat_eq flag 0) ≡ true = ap not (ne_eqb flag 0 is) in
+      rw set_flag made
+
+  pub left-written : (flag : ℕ) (out after t : List R) → flag ≡ 0 → after ≡ t → after ≡ left_by ring (not (nat_eq flag 0)) out t
+  left-written zero out after t is made = made
+  left-written (suc flag) out after t is made = absurd (omega arith)
 
 -- what a vector holds once a slice of all its places was written
 pub written-back : {A : Type 0} (out items : List A) (n : ℕ) → n ≡ length out → take n (out ++ drop (length out) items) ≡ out

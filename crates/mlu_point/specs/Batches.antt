@@ -1,5 +1,5 @@
 -- What a batch writes, and how it splits its scalars.
-use Rattle.std.specs.Prelude.{◌≡◌, ℕ, ◌<◌, Bool, List, length, slice_index_or, if◌then◌else◌}
+use Rattle.std.specs.Prelude.{◌≡◌, ℕ, ◌+◌, ◌-◌, ◌*◌, ◌<◌, ◌≤◌, Bool, List, length, slice_index_or, if◌then◌else◌}
 use Rattle.mlu_ring.specs.Ring.{Ring}
 use Rattle.mlu_ring.specs.Matrices.{batch, left_by}
 
@@ -22,3 +22,7 @@ lower_share ring image scalar c = ring.minus scalar (ring.product scalar (image 
 -- entry i of the shares is that of scalar i at coordinate i
 abbrev pub AreShares : {C R : Type 0} → (R → C → R) → List R → List R → List C → Type 0
 AreShares {C} {R} share shares scalars coordinates = (i : ℕ) (d : R) (c : C) → i < length scalars → slice_index_or shares i d ≡ share (slice_index_or scalars i d) (slice_index_or coordinates i c)
+
+-- the room for packed shares where so many variables of so many points are left to them: a lane buffer, and a place for each point and each of its coordinates that is no lane's
+abbrev pub IsRoom : ℕ → ℕ → ℕ → ℕ → ℕ → ℕ → Type 0
+IsRoom width log_width variables points lanes packed = 0 < variables → (log_width ≤ variables) × (lanes ≡ width) × (packed ≡ (variables - log_width) * points + points)

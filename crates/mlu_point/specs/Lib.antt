@@ -6,3 +6,4 @@ pub mod Factors
 pub mod Powers
 pub mod Steps
 pub mod Batches
+pub mod Splats

@@ -1,12 +1,22 @@
 //! Batches: the sum of the equality tables of many points, each times a scalar.
 //!
 //! A batch goes down variable by variable. Each scalar is split by the coordinate of its point,
-//! one share for the lower half of the output and one for the upper half.
-ghost use Rattle.std.specs.Prelude.{◌≡◌, ℕ, ◌<◌, ◌/◌, ◌^◌, ◌++◌, length, map, slice_index_or, replicate, is_ok, IfOk, if◌then◌else◌};
-ghost use Rattle.mlu_ring.specs.Sums.{sum_of};
-ghost use Rattle.mlu_point.specs.Batches.{with_batch, after_batch, upper_share, lower_share, AreShares};
+//! one share for the lower half of the output and one for the upper half. The first variables give
+//! the chunks of the output; in a chunk of enough variables the last ones are the lanes of packed
+//! shares, and those between split these.
+ghost use Rattle.std.specs.Prelude.{◌≡◌, ℕ, ◌+◌, ◌-◌, ◌*◌, ◌<◌, ◌≤◌, ◌/◌, ◌^◌, ◌++◌, length, map, slice_index_or, replicate, is_ok, IsOk, IfOk, if◌then◌else◌};
+ghost use Rattle.mlu_point.specs.Batches.{with_batch, after_batch, IsRoom};
 
-use mlu_ring::{Additive, ExtensionField, Field, PrimeCharacteristicRing, RowMajorMatrixView};
+mod evaluator;
+mod lanes;
+mod shares;
+
+use evaluator::{BaseFieldEvaluator, ExtFieldEvaluator, PackedEvaluator};
+use lanes::add_chunk;
+use mlu_ring::{
+    Additive, ExtensionField, Field, PackedValue, PrimeCharacteristicRing, RowMajorMatrixView,
+};
+use shares::{split_shares, sum};
 use std::alloc::{AllocError, Global};
 
 /// Writes to `out[x]` the sum over the points of scalar times weight of `x`, or adds it there where
@@ -16,8 +26,10 @@ use std::alloc::{AllocError, Global};
 /// taken; it becomes zeros, or is left where `INITIALIZED`.
 ///
 /// # Errors
-/// Where the working space, an element for each scalar and each coordinate, is refused, or that number
-/// does not fit `usize`; the output is as before then.
+/// Where the working space is refused, or its size does not fit `usize`; the output is as before
+/// then. With no points there is none. With up to `log2(W) + 1` variables it is an element for each
+/// scalar and each coordinate. With more it is a packed element for each scalar and for each
+/// coordinate but the last `log2(W)`, and an element for each scalar and each lane.
 pub fn eval_eq_batch<F: Field, EF: ExtensionField<F>, const INITIALIZED: bool>(
     alloc: Global,
     evals: RowMajorMatrixView<'_, EF>,
@@ -26,9 +38,10 @@ pub fn eval_eq_batch<F: Field, EF: ExtensionField<F>, const INITIALIZED: bool>(
 ) -> Result<(), AllocError>
     requires width { evals.width ≡ length scalars.now }
     requires size { 0 < length scalars.now → length out.old ≡ 2 ^ (length evals.values.now / length scalars.now) }
-    ensures { out.new ≡ after_batch EF.ring (is_ok result) INITIALIZED out.old evals.entry.values.now scalars.now }
+    ensures left { out.new ≡ after_batch EF.ring (is_ok result) INITIALIZED out.old evals.entry.values.now scalars.now }
+    ensures no_points { length scalars.now ≡ 0 → IsOk result }
 {
-    evaluate::<EF, EF, ExtFieldEvaluator, INITIALIZED>(alloc, evals, out, scalars)
+    evaluate::<F, EF, EF, ExtFieldEvaluator, INITIALIZED>(alloc, evals, out, scalars, 0)
 }
 
 /// As [`eval_eq_batch`], at points whose coordinates lie in the base field.
@@ -40,58 +53,68 @@ pub fn eval_eq_base_batch<F: Field, EF: ExtensionField<F>, const INITIALIZED: bo
 ) -> Result<(), AllocError>
     requires width { evals.width ≡ length scalars.now }
     requires size { 0 < length scalars.now → length out.old ≡ 2 ^ (length evals.values.now / length scalars.now) }
-    ensures { out.new ≡ after_batch EF.ring (is_ok result) INITIALIZED out.old (map EF.embed evals.entry.values.now) scalars.now }
+    ensures left { out.new ≡ after_batch EF.ring (is_ok result) INITIALIZED out.old (map EF.embed evals.entry.values.now) scalars.now }
+    ensures no_points { length scalars.now ≡ 0 → IsOk result }
 {
-    evaluate::<F, EF, BaseFieldEvaluator, INITIALIZED>(alloc, evals, out, scalars)
+    evaluate::<F, EF, F, BaseFieldEvaluator, INITIALIZED>(alloc, evals, out, scalars, 0)
 }
 
-/// How a scalar is multiplied by a coordinate of its point.
-trait EqualityEvaluator<C: Additive, S: PrimeCharacteristicRing> {
-    ghost image: { C → S };
-
-    fn multiply(scalar: S, coordinate: C) -> S
-        ensures { result ≡ S.ring.product scalar (image coordinate) };
+/// As [`eval_eq_batch`], with the output in `2^log_chunks` chunks that are made one after the other.
+///
+/// Asks besides that `log_chunks` is at most the number of variables; with no points it is not
+/// read. The working space has an element more for each scalar and each variable of the chunks.
+pub fn eval_eq_batch_in_chunks<F: Field, EF: ExtensionField<F>, const INITIALIZED: bool>(
+    alloc: Global,
+    evals: RowMajorMatrixView<'_, EF>,
+    out: &mut [EF],
+    scalars: &[EF],
+    log_chunks: usize,
+) -> Result<(), AllocError>
+    requires width { evals.width ≡ length scalars.now }
+    requires size { 0 < length scalars.now → length out.old ≡ 2 ^ (length evals.values.now / length scalars.now) }
+    requires chunks { 0 < length scalars.now → log_chunks ≤ length evals.values.now / length scalars.now }
+    ensures left { out.new ≡ after_batch EF.ring (is_ok result) INITIALIZED out.old evals.entry.values.now scalars.now }
+    ensures no_points { length scalars.now ≡ 0 → IsOk result }
+{
+    evaluate::<F, EF, EF, ExtFieldEvaluator, INITIALIZED>(alloc, evals, out, scalars, log_chunks)
 }
 
-/// Points with coordinates in the field of the scalars.
-struct ExtFieldEvaluator;
-
-impl<EF: PrimeCharacteristicRing> EqualityEvaluator<EF, EF> for ExtFieldEvaluator {
-    ghost image = { λ x. x };
-
-    #[inline]
-    fn multiply(scalar: EF, coordinate: EF) -> EF {
-        scalar * coordinate
-    }
-}
-
-/// Points with coordinates in its base field.
-struct BaseFieldEvaluator;
-
-impl<F: Field, EF: ExtensionField<F>> EqualityEvaluator<F, EF> for BaseFieldEvaluator {
-    ghost image = { EF.embed };
-
-    #[inline]
-    fn multiply(scalar: EF, coordinate: F) -> EF {
-        scalar.scale(coordinate)
-    }
+/// As [`eval_eq_batch_in_chunks`], at points whose coordinates lie in the base field.
+pub fn eval_eq_base_batch_in_chunks<F: Field, EF: ExtensionField<F>, const INITIALIZED: bool>(
+    alloc: Global,
+    evals: RowMajorMatrixView<'_, F>,
+    out: &mut [EF],
+    scalars: &[EF],
+    log_chunks: usize,
+) -> Result<(), AllocError>
+    requires width { evals.width ≡ length scalars.now }
+    requires size { 0 < length scalars.now → length out.old ≡ 2 ^ (length evals.values.now / length scalars.now) }
+    requires chunks { 0 < length scalars.now → log_chunks ≤ length evals.values.now / length scalars.now }
+    ensures left { out.new ≡ after_batch EF.ring (is_ok result) INITIALIZED out.old (map EF.embed evals.entry.values.now) scalars.now }
+    ensures no_points { length scalars.now ≡ 0 → IsOk result }
+{
+    evaluate::<F, EF, F, BaseFieldEvaluator, INITIALIZED>(alloc, evals, out, scalars, log_chunks)
 }
 
 /// The batch, with all working space taken before the first write.
 fn evaluate<
+    F: Field,
+    EF: ExtensionField<F>,
     C: Additive,
-    S: PrimeCharacteristicRing,
-    E: EqualityEvaluator<C, S>,
+    E: PackedEvaluator<F, C, EF>,
     const INITIALIZED: bool,
 >(
     alloc: Global,
     evals: RowMajorMatrixView<'_, C>,
-    out: &mut [S],
-    scalars: &[S],
+    out: &mut [EF],
+    scalars: &[EF],
+    log_chunks: usize,
 ) -> Result<(), AllocError>
     requires width { evals.width ≡ length scalars.now }
     requires size { 0 < length scalars.now → length out.old ≡ 2 ^ (length evals.values.now / length scalars.now) }
-    ensures { out.new ≡ after_batch S.ring (is_ok result) INITIALIZED out.old (map E.image evals.entry.values.now) scalars.now }
+    requires chunks { 0 < length scalars.now → log_chunks ≤ length evals.values.now / length scalars.now }
+    ensures left { out.new ≡ after_batch EF.ring (is_ok result) INITIALIZED out.old (map E.image evals.entry.values.now) scalars.now }
+    ensures no_points { length scalars.now ≡ 0 → IsOk result }
 {
     if scalars.is_empty() {
         if !INITIALIZED {
@@ -99,83 +122,147 @@ fn evaluate<
         }
         return Ok(());
     }
-    let mut working = working_space(alloc, scalars, evals.values.len())?;
+    let below = variables_of_chunk::<F>(evals.height() - log_chunks);
+    let lanes = lane_places::<F>(below);
+    let mut packed = packed_space::<F, EF>(alloc, scalars.len(), below)?;
+    let splits = evals.values.len() - below * scalars.len();
+    let mut working = working_space(alloc, scalars, splits, lanes)?;
     let (shares, space) = working.as_mut_slice().split_at_mut(scalars.len());
-    add_tables::<C, S, E, INITIALIZED>(evals, shares, space, out);
+    let (space, lanes) = space.split_at_mut(splits);
+    add_tables::<F, EF, C, E, INITIALIZED>(
+        evals,
+        below,
+        shares,
+        space,
+        lanes,
+        packed.as_mut_slice(),
+        out,
+    );
     Ok(())
 }
 
-/// A copy of the scalars and then zeros for the shares of each variable, in one growth.
+/// How many of so many variables a chunk leaves to packed shares: all, or none where fewer than two
+/// would be left to split them.
+fn variables_of_chunk<F: Field>(variables: usize) -> usize
+    ensures within { result ≤ variables }
+    ensures lanes { 0 < result → F.Packing.LOG_WIDTH ≤ result }
+{
+    if variables.saturating_sub(<F::Packing as PackedValue>::LOG_WIDTH) < 2 {
+        0
+    } else {
+        variables
+    }
+}
+
+/// The places for the lanes of one packed share, where a chunk leaves variables to packed shares.
+fn lane_places<F: Field>(variables: usize) -> usize
+    ensures { 0 < variables → result ≡ F.Packing.WIDTH }
+{
+    if variables == 0 {
+        0
+    } else {
+        <F::Packing as PackedValue>::WIDTH
+    }
+}
+
+/// Zeros for the packed shares of so many points, and for those of each variable that is no lane's.
+fn packed_space<F: Field, EF: ExtensionField<F>>(
+    alloc: Global,
+    points: usize,
+    variables: usize,
+) -> Result<Vec<EF::ExtensionPacking>, AllocError>
+    requires fits { variables * points < 2 ^ 64 }
+    requires lanes { 0 < variables → F.Packing.LOG_WIDTH ≤ variables }
+    ensures { IfOk result (λ space. 0 < variables → length space.items ≡ (variables - F.Packing.LOG_WIDTH) * points + points) }
+{
+    if variables == 0 {
+        return EF::ExtensionPacking::zero_vec(alloc, 0);
+    }
+    let splits = (variables - <F::Packing as PackedValue>::LOG_WIDTH) * points;
+    let size = splits.checked_add(points).ok_or(AllocError)?;
+    EF::ExtensionPacking::zero_vec(alloc, size)
+}
+
+/// A copy of the scalars, and zeros for the shares of each variable and for lanes, in one growth.
 fn working_space<S: PrimeCharacteristicRing>(
     alloc: Global,
     scalars: &[S],
-    shares: usize,
+    splits: usize,
+    lanes: usize,
 ) -> Result<Vec<S>, AllocError>
-    ensures { IfOk result (λ space. space.items ≡ scalars.now ++ replicate shares S.ring.zero) }
+    ensures { IfOk result (λ space. space.items ≡ scalars.now ++ replicate (splits + lanes) S.ring.zero) }
 {
-    let size = scalars.len().checked_add(shares).ok_or(AllocError)?;
+    let others = splits.checked_add(lanes).ok_or(AllocError)?;
+    let size = scalars.len().checked_add(others).ok_or(AllocError)?;
     let mut space = Vec::with_capacity(alloc, size)?;
     space.extend_from_slice(scalars)?;
     space.resize(size, S::ZERO)?;
     Ok(space)
 }
 
-/// The plain recursion on the first variable, which writes two disjoint halves of the output. It
-/// uses up the scalars and the working space.
+/// The recursion on the first variable, which writes two disjoint halves of the output, down to the
+/// variables of a chunk. It uses up the scalars and the working space.
 fn add_tables<
+    F: Field,
+    EF: ExtensionField<F>,
     C: Additive,
-    S: PrimeCharacteristicRing,
-    E: EqualityEvaluator<C, S>,
+    E: PackedEvaluator<F, C, EF>,
     const INITIALIZED: bool,
->(evals: RowMajorMatrixView<'_, C>, scalars: &mut [S], space: &mut [S], out: &mut [S])
+>(
+    evals: RowMajorMatrixView<'_, C>,
+    below: usize,
+    scalars: &mut [EF],
+    space: &mut [EF],
+    lanes: &mut [EF],
+    packed: &mut [EF::ExtensionPacking],
+    out: &mut [EF],
+)
     requires some { 0 < length scalars.old }
     requires width { evals.width ≡ length scalars.old }
-    requires space { length space.old ≡ length evals.values.now }
+    requires below { below ≤ length evals.values.now / length scalars.old }
+    requires space { length space.old + below * length scalars.old ≡ length evals.values.now }
+    requires room { IsRoom F.Packing.WIDTH F.Packing.LOG_WIDTH below (length scalars.old) (length lanes.old) (length packed.old) }
     requires size { length out.old ≡ 2 ^ (length evals.values.now / length scalars.old) }
-    ensures { out.new ≡ with_batch S.ring INITIALIZED out.old (map E.image evals.entry.values.now) scalars.old }
+    ensures { out.new ≡ with_batch EF.ring INITIALIZED out.old (map E.image evals.entry.values.now) scalars.old }
 {
-    if evals.height() == 0 {
-        write_or_add::<S, INITIALIZED>(&mut out[0], sum(scalars));
+    if evals.height() == below {
+        add_rest::<F, EF, C, E, INITIALIZED>(evals, scalars, lanes, packed, out);
         return;
     }
     let (first, others) = evals.split_rows(1);
     let (high_scalars, space) = space.split_at_mut(scalars.len());
-    split_scalars::<C, S, E>(scalars, high_scalars, first.values);
+    split_shares::<C, EF, E>(scalars, high_scalars, first.values);
     let half = out.len() / 2;
     let (low, high) = out.split_at_mut(half);
-    add_tables::<C, S, E, INITIALIZED>(others, high_scalars, space, high);
-    add_tables::<C, S, E, INITIALIZED>(others, scalars, space, low);
+    add_tables::<F, EF, C, E, INITIALIZED>(others, below, high_scalars, space, lanes, packed, high);
+    add_tables::<F, EF, C, E, INITIALIZED>(others, below, scalars, space, lanes, packed, low);
 }
 
-/// Splits each scalar by a coordinate: its share at 1 goes to `high`, and the rest stays.
-#[inline]
-fn split_scalars<C: Additive, S: PrimeCharacteristicRing, E: EqualityEvaluator<C, S>>(
-    low: &mut [S],
-    high: &mut [S],
-    coordinates: &[C],
+/// The batch of one chunk, or of one entry where no variable is left.
+fn add_rest<
+    F: Field,
+    EF: ExtensionField<F>,
+    C: Additive,
+    E: PackedEvaluator<F, C, EF>,
+    const INITIALIZED: bool,
+>(
+    evals: RowMajorMatrixView<'_, C>,
+    scalars: &[EF],
+    lanes: &mut [EF],
+    packed: &mut [EF::ExtensionPacking],
+    out: &mut [EF],
 )
-    requires high { length high.old ≡ length low.old }
-    requires coordinates { length coordinates.now ≡ length low.old }
-    ensures upper { AreShares (upper_share S.ring E.image) high.new low.old coordinates.now }
-    ensures lower { AreShares (lower_share S.ring E.image) low.new low.old coordinates.now }
+    requires some { 0 < length scalars.now }
+    requires width { evals.width ≡ length scalars.now }
+    requires room { IsRoom F.Packing.WIDTH F.Packing.LOG_WIDTH (length evals.values.now / length scalars.now) (length scalars.now) (length lanes.old) (length packed.old) }
+    requires size { length out.old ≡ 2 ^ (length evals.values.now / length scalars.now) }
+    ensures { out.new ≡ with_batch EF.ring INITIALIZED out.old (map E.image evals.entry.values.now) scalars.now }
 {
-    for i in 0..low.len() {
-        let share = E::multiply(low[i], coordinates[i]);
-        high[i] = share;
-        low[i] = low[i] - share;
+    if evals.height() == 0 {
+        write_or_add::<EF, INITIALIZED>(&mut out[0], sum(scalars));
+    } else {
+        add_chunk::<F, EF, C, E, INITIALIZED>(evals, scalars, lanes, packed, out);
     }
-}
-
-/// The elements added up.
-#[inline]
-fn sum<S: Additive>(xs: &[S]) -> S
-    ensures { result ≡ sum_of S.ring xs.now }
-{
-    let mut sum = S::ZERO;
-    for x in xs {
-        sum = sum + *x;
-    }
-    sum
 }
 
 /// Writes the value, or adds it where `INITIALIZED`.

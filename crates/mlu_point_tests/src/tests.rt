@@ -46,6 +46,7 @@ enum Row {
     BaseBatches,
     NoPoints,
     NoCoordinates,
+    OnePointInChunks,
     DrawnValues(usize),
     DrawnBatches(usize, usize),
     DrawnBaseBatches(usize, usize),
@@ -83,6 +84,7 @@ fn holds<F: Field + Sample, EF: ExtensionField<F> + Sample>(
         Row::BaseBatches => batches::rows_of_the_base::<F, EF>(alloc),
         Row::NoPoints => batches::without_points::<F, EF>(alloc),
         Row::NoCoordinates => batches::without_coordinates::<F, EF>(alloc),
+        Row::OnePointInChunks => batches::one_point_in_chunks::<F, EF>(alloc),
         Row::DrawnValues(n) => evaluations::drawn_values::<F, EF>(alloc, n),
         Row::DrawnBatches(n, points) => batches::draws::<F, EF>(alloc, n, points),
         Row::DrawnBaseBatches(n, points) => batches::draws_of_the_base::<F, EF>(alloc, n, points),
@@ -164,6 +166,16 @@ fn in_narrow_lanes(alloc: Global, row: FieldRow) -> Result<bool, AllocError> {
             && residues::<2>(alloc, Row::Field(row))?
             && residues::<4>(alloc, Row::Field(row))?
             && quartics(alloc, Row::Field(row))?,
+    )
+}
+
+/// Whether the row holds over residues, at each lane width.
+fn in_each_width(alloc: Global, row: Row) -> Result<bool, AllocError> {
+    Ok(
+        residues::<1>(alloc, row)?
+            && residues::<2>(alloc, row)?
+            && residues::<4>(alloc, row)?
+            && residues::<8>(alloc, row)?,
     )
 }
 
@@ -304,6 +316,18 @@ fn batches_of_points_without_coordinates(rt: HostRuntime) -> Result<(), Fail> {
     Ok(())
 }
 
+#[test]
+fn one_point_in_chunks(rt: HostRuntime) -> Result<(), Fail> {
+    assert!(rt; in_each_width(rt.alloc(), Row::OnePointInChunks)?);
+    Ok(())
+}
+
+#[test]
+fn one_point_in_chunks_of_other_rings(rt: HostRuntime) -> Result<(), Fail> {
+    assert!(rt; everywhere(rt.alloc(), Row::OnePointInChunks)?);
+    Ok(())
+}
+
 /// Whether batches of so many drawn variables, at each number of points, are the plain sums.
 fn drawn_batches(alloc: Global, n: usize) -> Result<bool, AllocError> {
     for points in 0..6 {
@@ -316,10 +340,39 @@ fn drawn_batches(alloc: Global, n: usize) -> Result<bool, AllocError> {
     Ok(true)
 }
 
+/// [`drawn_batches`] over residues alone, at each lane width.
+fn drawn_batches_in_each_width(alloc: Global, n: usize) -> Result<bool, AllocError> {
+    for points in 0..6 {
+        if !in_each_width(alloc, Row::DrawnBatches(n, points))?
+            || !in_each_width(alloc, Row::DrawnBaseBatches(n, points))?
+        {
+            return Ok(false);
+        }
+    }
+    Ok(true)
+}
+
 #[test]
 fn batches_of_drawn_points(rt: HostRuntime) -> Result<(), Fail> {
-    for n in 0..10 {
+    for n in 0..6 {
         assert!(rt; drawn_batches(rt.alloc(), n)?, "{n} variables");
     }
+    Ok(())
+}
+
+#[test]
+fn batches_of_drawn_residues(rt: HostRuntime) -> Result<(), Fail> {
+    for n in 0..9 {
+        assert!(rt;
+            drawn_batches_in_each_width(rt.alloc(), n)?,
+            "{n} variables"
+        );
+    }
+    Ok(())
+}
+
+#[test]
+fn batches_of_drawn_residues_of_nine_variables(rt: HostRuntime) -> Result<(), Fail> {
+    assert!(rt; drawn_batches_in_each_width(rt.alloc(), 9)?);
     Ok(())
 }

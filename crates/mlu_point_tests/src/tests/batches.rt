@@ -1,8 +1,12 @@
 //! Batches of points, written and added.
-ghost use Rattle.std.specs.Prelude.{◌≡◌, ◌*◌, ◌<◌, ◌^◌, length};
+ghost use Rattle.std.specs.Prelude.{◌≡◌, ◌*◌, ◌<◌, ◌≤◌, ◌^◌, length};
 
-use mlu_point::eq_batch::{eval_eq_base_batch, eval_eq_batch};
-use mlu_ring::{ExtensionField, Field, PrimeCharacteristicRing, RowMajorMatrixView, Sample};
+use mlu_point::eq_batch::{
+    eval_eq_base_batch, eval_eq_base_batch_in_chunks, eval_eq_batch, eval_eq_batch_in_chunks,
+};
+use mlu_ring::{
+    Additive, ExtensionField, Field, PrimeCharacteristicRing, RowMajorMatrixView, Sample,
+};
 use mlu_test_support::draws::drawn;
 use mlu_test_support::numbers::{are, elements};
 use mlu_test_support::plain::{images, weight};
@@ -66,6 +70,31 @@ pub fn without_coordinates<F: Field, EF: ExtensionField<F>>(
     Ok(written && are(out.as_slice(), &[10]))
 }
 
+/// The equality table of the point (2, 3, 5).
+const TABLE: [i32; 8] = [-8, 10, 12, -15, 16, -20, -24, 30];
+
+/// One point of three variables, in each number of chunks: its equality table.
+pub fn one_point_in_chunks<F: Field, EF: ExtensionField<F>>(
+    alloc: Global,
+) -> Result<bool, AllocError> {
+    let point: Vec<EF> = elements(alloc, &[2, 3, 5])?;
+    let base: Vec<F> = elements(alloc, &[2, 3, 5])?;
+    let evals = RowMajorMatrixView::new_col(point.as_slice());
+    let base = RowMajorMatrixView::new_col(base.as_slice());
+    let mut out: Vec<EF> = elements(alloc, &[9; 8])?;
+    let one = [EF::ONE];
+    for log_chunks in 0..4 {
+        let places = out.as_mut_slice();
+        eval_eq_batch_in_chunks::<F, EF, false>(alloc, evals, places, &one, log_chunks)?;
+        let by_elements = are(places, &TABLE);
+        eval_eq_base_batch_in_chunks::<F, EF, false>(alloc, base, places, &one, log_chunks)?;
+        if !by_elements || !are(places, &TABLE) {
+            return Ok(false);
+        }
+    }
+    Ok(true)
+}
+
 /// The sum over the points, the columns of the rows, of scalar times weight of `x`.
 fn plain_batch<R: PrimeCharacteristicRing>(
     alloc: Global,
@@ -86,41 +115,57 @@ fn plain_batch<R: PrimeCharacteristicRing>(
     Ok(sum)
 }
 
-/// Whether `out` is what a batch leaves of `before`.
-fn is_batch<R: PrimeCharacteristicRing, const INITIALIZED: bool>(
+/// The sums of so many places.
+fn plain_batches<R: PrimeCharacteristicRing>(
     alloc: Global,
-    out: &[R],
-    before: &[R],
     rows: &[R],
     scalars: &[R],
-) -> Result<bool, AllocError> {
-    for (x, (after, old)) in out.iter().zip(before).enumerate() {
-        let sum = plain_batch(alloc, rows, scalars, x)?;
-        if *after != if INITIALIZED { *old + sum } else { sum } {
-            return Ok(false);
+    places: usize,
+) -> Result<Vec<R>, AllocError> {
+    let mut sums = Vec::with_capacity(alloc, places)?;
+    for x in 0..places {
+        sums.push(plain_batch(alloc, rows, scalars, x)?)?;
+    }
+    Ok(sums)
+}
+
+/// Whether `out` is what a batch leaves of `before`, whose sums are these.
+fn is_batch<R: Additive, const INITIALIZED: bool>(out: &[R], before: &[R], sums: &[R]) -> bool {
+    for ((after, old), sum) in out.iter().zip(before).zip(sums) {
+        if *after != if INITIALIZED { *old + *sum } else { *sum } {
+            return false;
         }
     }
-    Ok(out.len() == before.len())
+    out.len() == before.len() && out.len() == sums.len()
 }
 
 /// Whether a batch of these rows leaves what it is to leave.
 fn agrees<F: Field, EF: ExtensionField<F>, const INITIALIZED: bool>(
     alloc: Global,
     n: usize,
+    log_chunks: usize,
     rows: &[EF],
     scalars: &[EF],
     before: &[EF],
+    sums: &[EF],
 ) -> Result<bool, AllocError>
     requires rows { length rows.now ≡ n * length scalars.now }
     requires places { length before.now ≡ 2 ^ n }
+    requires chunks { log_chunks ≤ n }
 {
     let evals = RowMajorMatrixView::new(rows, scalars.len());
     let mut out = Vec::from_slice(alloc, before)?;
-    eval_eq_batch::<F, EF, INITIALIZED>(alloc, evals, out.as_mut_slice(), scalars)?;
-    is_batch::<EF, INITIALIZED>(alloc, out.as_slice(), before, rows, scalars)
+    eval_eq_batch_in_chunks::<F, EF, INITIALIZED>(
+        alloc,
+        evals,
+        out.as_mut_slice(),
+        scalars,
+        log_chunks,
+    )?;
+    Ok(is_batch::<EF, INITIALIZED>(out.as_slice(), before, sums))
 }
 
-/// A batch of drawn points.
+/// A batch of drawn points, in each number of chunks.
 pub fn draws<F: Field, EF: ExtensionField<F> + Sample>(
     alloc: Global,
     n: usize,
@@ -133,31 +178,45 @@ pub fn draws<F: Field, EF: ExtensionField<F> + Sample>(
     let elements: Vec<EF> = drawn(alloc, &mut rng, n * points + points + (1 << n))?;
     let (rows, others) = elements.as_slice().split_at(n * points);
     let (scalars, before) = others.split_at(points);
-    Ok(
-        agrees::<F, EF, false>(alloc, n, rows, scalars, before)?
-            && agrees::<F, EF, true>(alloc, n, rows, scalars, before)?,
-    )
+    let sums = plain_batches(alloc, rows, scalars, before.len())?;
+    let sums = sums.as_slice();
+    for log_chunks in 0..n + 1 {
+        if !agrees::<F, EF, false>(alloc, n, log_chunks, rows, scalars, before, sums)?
+            || !agrees::<F, EF, true>(alloc, n, log_chunks, rows, scalars, before, sums)?
+        {
+            return Ok(false);
+        }
+    }
+    Ok(true)
 }
 
 /// Whether a batch of these rows of base elements leaves what it is to leave.
 fn agrees_in_the_base<F: Field, EF: ExtensionField<F>, const INITIALIZED: bool>(
     alloc: Global,
     n: usize,
+    log_chunks: usize,
     rows: &[F],
     scalars: &[EF],
     before: &[EF],
+    sums: &[EF],
 ) -> Result<bool, AllocError>
     requires rows { length rows.now ≡ n * length scalars.now }
     requires places { length before.now ≡ 2 ^ n }
+    requires chunks { log_chunks ≤ n }
 {
     let evals = RowMajorMatrixView::new(rows, scalars.len());
     let mut out = Vec::from_slice(alloc, before)?;
-    eval_eq_base_batch::<F, EF, INITIALIZED>(alloc, evals, out.as_mut_slice(), scalars)?;
-    let images: Vec<EF> = images(alloc, rows)?;
-    is_batch::<EF, INITIALIZED>(alloc, out.as_slice(), before, images.as_slice(), scalars)
+    eval_eq_base_batch_in_chunks::<F, EF, INITIALIZED>(
+        alloc,
+        evals,
+        out.as_mut_slice(),
+        scalars,
+        log_chunks,
+    )?;
+    Ok(is_batch::<EF, INITIALIZED>(out.as_slice(), before, sums))
 }
 
-/// A batch of drawn points whose coordinates are base elements.
+/// A batch of drawn points whose coordinates are base elements, in each number of chunks.
 pub fn draws_of_the_base<F: Field + Sample, EF: ExtensionField<F> + Sample>(
     alloc: Global,
     n: usize,
@@ -170,8 +229,18 @@ pub fn draws_of_the_base<F: Field + Sample, EF: ExtensionField<F> + Sample>(
     let rows: Vec<F> = drawn(alloc, &mut rng, n * points)?;
     let elements: Vec<EF> = drawn(alloc, &mut rng, points + (1 << n))?;
     let (scalars, before) = elements.as_slice().split_at(points);
-    Ok(
-        agrees_in_the_base::<F, EF, false>(alloc, n, rows.as_slice(), scalars, before)?
-            && agrees_in_the_base::<F, EF, true>(alloc, n, rows.as_slice(), scalars, before)?,
-    )
+    let rows = rows.as_slice();
+    let images: Vec<EF> = images(alloc, rows)?;
+    let sums = plain_batches(alloc, images.as_slice(), scalars, before.len())?;
+    let sums = sums.as_slice();
+    for log_chunks in 0..n + 1 {
+        if !agrees_in_the_base::<F, EF, false>(alloc, n, log_chunks, rows, scalars, before, sums)?
+            || !agrees_in_the_base::<F, EF, true>(
+                alloc, n, log_chunks, rows, scalars, before, sums,
+            )?
+        {
+            return Ok(false);
+        }
+    }
+    Ok(true)
 }

@@ -1,5 +1,5 @@
 use Rattle.std.proofs.Common.{◌≡◌, ℕ, ◌<◌, ◌≤◌, get_or}
-use Rattle.mlu_point.proofs.eq_batch.split_scalars.Given as goal
+use Rattle.mlu_point.proofs.eq_batch.shares.split_shares.Given as goal
 
 abbrev pub invariant-loop-i : goal.invariant-loop-i
 invariant-loop-i g l =

@@ -1,0 +1,96 @@
+//! How shares of scalars are multiplied by a coordinate of their point.
+ghost use Rattle.std.specs.Prelude.{◌≡◌, replicate};
+
+use mlu_ring::{
+    Additive, Algebra, ExtensionField, Field, PackedFieldExtension, PackedValue,
+    PrimeCharacteristicRing,
+};
+use std::marker::PhantomData;
+
+/// How a share is multiplied by a coordinate of its point.
+pub(super) trait EqualityEvaluator<C: Additive, S: PrimeCharacteristicRing> {
+    ghost image: { C → S };
+
+    fn multiply(share: S, coordinate: C) -> S
+        ensures { result ≡ S.ring.product share (image coordinate) };
+}
+
+/// An evaluator that multiplies a packed share as well: the coordinate stands in every lane.
+pub(super) trait PackedEvaluator<F: Field, C: Additive, EF: ExtensionField<F>>: EqualityEvaluator<
+    C,
+    EF,
+> {
+    ghost packed_image: { C → EF.ExtensionPacking };
+
+    fn multiply_packed(share: EF::ExtensionPacking, coordinate: C) -> EF::ExtensionPacking
+        ensures { result ≡ EF.ExtensionPacking.ring.product share (packed_image coordinate) };
+
+    ghost in_every_lane: { (c : C) → EF.ExtensionPacking.ext_lanes (packed_image c) ≡ replicate F.Packing.WIDTH (Self.image c) };
+}
+
+/// Points with coordinates in the field of the scalars.
+pub(super) struct ExtFieldEvaluator;
+
+impl<EF: PrimeCharacteristicRing> EqualityEvaluator<EF, EF> for ExtFieldEvaluator {
+    ghost image = { λ x. x };
+
+    #[inline]
+    fn multiply(share: EF, coordinate: EF) -> EF {
+        share * coordinate
+    }
+}
+
+impl<F: Field, EF: ExtensionField<F>> PackedEvaluator<F, EF, EF> for ExtFieldEvaluator {
+    ghost packed_image = { ⟦<EF::ExtensionPacking as Algebra<EF>>⟧.embed };
+
+    #[inline]
+    fn multiply_packed(share: EF::ExtensionPacking, coordinate: EF) -> EF::ExtensionPacking {
+        <EF::ExtensionPacking as Algebra<EF>>::scale(share, coordinate)
+    }
+
+    ghost in_every_lane = { EF.ExtensionPacking.embeds_element };
+}
+
+/// Points with coordinates in its base field.
+pub(super) struct BaseFieldEvaluator;
+
+impl<F: Field, EF: ExtensionField<F>> EqualityEvaluator<F, EF> for BaseFieldEvaluator {
+    ghost image = { EF.embed };
+
+    #[inline]
+    fn multiply(share: EF, coordinate: F) -> EF {
+        share.scale(coordinate)
+    }
+}
+
+impl<F: Field, EF: ExtensionField<F>> PackedEvaluator<F, F, EF> for BaseFieldEvaluator {
+    ghost use Rattle.mlu_ring.specs.Lanes.{splat_of};
+    ghost use Rattle.mlu_point.specs.Splats.{lanes-of_splat};
+
+    ghost packed_image = { λ c. ⟦<EF::ExtensionPacking as Algebra<F::Packing>>⟧.embed (splat_of F.Packing.WIDTH F.Packing.of_lanes c) };
+
+    #[inline]
+    fn multiply_packed(share: EF::ExtensionPacking, coordinate: F) -> EF::ExtensionPacking {
+        let splat = <F::Packing as PackedValue>::splat(coordinate);
+        <EF::ExtensionPacking as Algebra<F::Packing>>::scale(share, splat)
+    }
+
+    ghost in_every_lane = { lanes-of_splat F.Packing.WIDTH F.Packing.lanes F.Packing.of_lanes F.Packing.lanes_are EF.ExtensionPacking.ext_lanes ⟦<EF::ExtensionPacking as Algebra<F::Packing>>⟧.embed EF.embed EF.ExtensionPacking.embeds_packing };
+}
+
+/// The evaluator of the packed shares.
+pub(super) struct InLanes<F, EF, E> {
+    of: PhantomData<(F, EF, E)>,
+}
+
+impl<F: Field, C: Additive, EF: ExtensionField<F>, E: PackedEvaluator<F, C, EF>> EqualityEvaluator<
+    C,
+    EF::ExtensionPacking,
+> for InLanes<F, EF, E> {
+    ghost image = { E.packed_image };
+
+    #[inline]
+    fn multiply(share: EF::ExtensionPacking, coordinate: C) -> EF::ExtensionPacking {
+        E::multiply_packed(share, coordinate)
+    }
+}
