@@ -5,7 +5,7 @@ use mlu_lanes::{BabyBear, Lanes};
 use mlu_ring::{
     Additive, Counter, Field, PackedValue, PrimeCharacteristicRing, RowMajorMatrixView,
 };
-use multilinear_util::eq_batch::eval_eq_batch;
+use multilinear_util::eq_batch::{eval_eq_batch, eval_eq_batch_in_chunks};
 use multilinear_util::laws;
 use multilinear_util::point::{BitOrder, Point};
 use multilinear_util::poly::Poly;
@@ -53,6 +53,22 @@ fn batches(rt: HostRuntime) -> Result<(), Fail> {
     let columns = RowMajorMatrixView::new(&points, 3);
     eval_eq_batch::<BabyBear<4>, _, false>(rt.alloc(), columns, &mut out, &scalars)?;
     assert!(rt; out == [0, 3, 2, 5].map(BabyBear::from_u32));
+    Ok(())
+}
+
+#[test]
+fn batches_in_chunks(rt: HostRuntime) -> Result<(), Fail> {
+    let point = [2, 3].map(BabyBear::<4>::from_u32);
+    let mut out = [BabyBear::<4>::ONE; 4];
+    let column = RowMajorMatrixView::new_col(&point);
+    eval_eq_batch_in_chunks::<BabyBear<4>, _, true>(
+        rt.alloc(),
+        column,
+        &mut out,
+        &[BabyBear::ONE],
+        1,
+    )?;
+    assert!(rt; out[3].as_canonical_u32() == 7);
     Ok(())
 }
 
