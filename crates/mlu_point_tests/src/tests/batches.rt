@@ -77,22 +77,38 @@ const TABLE: [i32; 8] = [-8, 10, 12, -15, 16, -20, -24, 30];
 pub fn one_point_in_chunks<F: Field, EF: ExtensionField<F>>(
     alloc: Global,
 ) -> Result<bool, AllocError> {
-    let point: Vec<EF> = elements(alloc, &[2, 3, 5])?;
-    let base: Vec<F> = elements(alloc, &[2, 3, 5])?;
-    let evals = RowMajorMatrixView::new_col(point.as_slice());
-    let base = RowMajorMatrixView::new_col(base.as_slice());
-    let mut out: Vec<EF> = elements(alloc, &[9; 8])?;
-    let one = [EF::ONE];
     for log_chunks in 0..4 {
-        let places = out.as_mut_slice();
-        eval_eq_batch_in_chunks::<F, EF, false>(alloc, evals, places, &one, log_chunks)?;
-        let by_elements = are(places, &TABLE);
-        eval_eq_base_batch_in_chunks::<F, EF, false>(alloc, base, places, &one, log_chunks)?;
-        if !by_elements || !are(places, &TABLE) {
+        if !is_table_in_chunks::<F, EF>(alloc, log_chunks)? {
             return Ok(false);
         }
     }
     Ok(true)
+}
+
+/// Whether the batch of the point alone is its table, by coordinates of both fields.
+fn is_table_in_chunks<F: Field, EF: ExtensionField<F>>(
+    alloc: Global,
+    log_chunks: usize,
+) -> Result<bool, AllocError>
+    requires { log_chunks ≤ 3 }
+{
+    let point: Vec<EF> = elements(alloc, &[2, 3, 5])?;
+    let base: Vec<F> = elements(alloc, &[2, 3, 5])?;
+    let evals = RowMajorMatrixView::new_col(point.as_slice());
+    let base = RowMajorMatrixView::new_col(base.as_slice());
+    let one = [EF::ONE];
+    let mut out: Vec<EF> = elements(alloc, &[9; 8])?;
+    eval_eq_batch_in_chunks::<F, EF, false>(alloc, evals, out.as_mut_slice(), &one, log_chunks)?;
+    let by_elements = are(out.as_slice(), &TABLE);
+    let mut out: Vec<EF> = elements(alloc, &[9; 8])?;
+    eval_eq_base_batch_in_chunks::<F, EF, false>(
+        alloc,
+        base,
+        out.as_mut_slice(),
+        &one,
+        log_chunks,
+    )?;
+    Ok(by_elements && are(out.as_slice(), &TABLE))
 }
 
 /// The sum over the points, the columns of the rows, of scalar times weight of `x`.

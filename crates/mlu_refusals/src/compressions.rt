@@ -1,0 +1,114 @@
+//! Compressions of a polynomial at the point (2).
+ghost use Rattle.std.specs.Prelude.{◌≡◌, length};
+
+use crate::given::{is_poly, poly, short_point};
+use crate::outcome::{Outcome, judge};
+use crate::residues::{Call as AnyCall, tried};
+use mlu_point::point::Point;
+use mlu_ring::{ExtensionField, Field, PackedFieldExtension, PrimeCharacteristicRing};
+use mlu_test_support::numbers::{are, element};
+use multilinear_util::poly::Poly;
+use std::alloc::{AllocError, Global};
+use std::test::Fail;
+
+#[derive(Clone, Copy)]
+pub enum Call {
+    Prefix,
+    PrefixToPacked,
+    Suffix,
+}
+
+/// What becomes of the call. Fails where its inputs are refused.
+pub fn made<F: Field, EF: ExtensionField<F>>(
+    alloc: Global,
+    call: Call,
+) -> Result<Outcome, AllocError>
+    requires { F.Packing.WIDTH ≡ 4 }
+{
+    let point = short_point::<EF>(alloc)?;
+    let poly = poly::<F>(alloc)?;
+    let answered = match call {
+        Call::Prefix => prefix(alloc, &poly, &point),
+        Call::PrefixToPacked => prefix_to_packed(alloc, &poly, &point),
+        Call::Suffix => suffix(alloc, &poly, &point),
+    };
+    Ok(judge(answered, is_poly(poly.as_slice())))
+}
+
+fn prefix<F: Field, EF: ExtensionField<F>>(
+    alloc: Global,
+    poly: &Poly<F>,
+    point: &Point<EF>,
+) -> Result<bool, AllocError>
+    requires poly { length poly.now ≡ 8 }
+    requires point { length point.now ≡ 1 }
+{
+    let left = poly.compress_prefix(alloc, point, EF::ONE)?;
+    Ok(are(left.as_slice(), &[9, 10, 11, 12]))
+}
+
+fn prefix_to_packed<F: Field, EF: ExtensionField<F>>(
+    alloc: Global,
+    poly: &Poly<F>,
+    point: &Point<EF>,
+) -> Result<bool, AllocError>
+    requires lanes { F.Packing.WIDTH ≡ 4 }
+    requires poly { length poly.now ≡ 8 }
+    requires point { length point.now ≡ 1 }
+{
+    let left = poly.compress_prefix_to_packed(alloc, point, EF::ONE)?;
+    Ok(has_lanes::<F, EF>(left.as_slice(), &[9, 10, 11, 12]))
+}
+
+/// Whether the lanes are the images of the numbers.
+fn has_lanes<F: Field, EF: ExtensionField<F>>(
+    packed: &[EF::ExtensionPacking],
+    numbers: &[i32],
+) -> bool {
+    let mut lanes = EF::ExtensionPacking::to_ext_iter(packed);
+    for number in numbers {
+        if lanes.next() != Some(element(*number)) {
+            return false;
+        }
+    }
+    lanes.next().is_none()
+}
+
+fn suffix<F: Field, EF: ExtensionField<F>>(
+    alloc: Global,
+    poly: &Poly<F>,
+    point: &Point<EF>,
+) -> Result<bool, AllocError>
+    requires poly { length poly.now ≡ 8 }
+    requires point { length point.now ≡ 1 }
+{
+    let left = poly.compress_suffix(alloc, point, EF::ONE)?;
+    Ok(are(left.as_slice(), &[3, 5, 7, 9]))
+}
+
+#[test]
+fn prefix_compressed_to_packed(rt: HostRuntime) -> Result<(), Fail> {
+    tried(
+        &rt,
+        "Poly::compress_prefix_to_packed",
+        AnyCall::Compression(Call::PrefixToPacked),
+    )
+}
+
+#[test]
+fn prefix_compressed_at_a_point(rt: HostRuntime) -> Result<(), Fail> {
+    tried(
+        &rt,
+        "Poly::compress_prefix",
+        AnyCall::Compression(Call::Prefix),
+    )
+}
+
+#[test]
+fn suffix_compressed_at_a_point(rt: HostRuntime) -> Result<(), Fail> {
+    tried(
+        &rt,
+        "Poly::compress_suffix",
+        AnyCall::Compression(Call::Suffix),
+    )
+}
