@@ -1,56 +1,165 @@
-use crate::outcome::{Element, element, outcome};
-use mlu_point::eq_batch::{eval_eq_base_batch, eval_eq_batch};
-use mlu_ring::RowMajorMatrixView;
+//! Batches of points.
+ghost use Rattle.std.specs.Prelude.{◌≡◌};
+
+use crate::outcome::{Outcome, is_served, judge, written};
+use crate::residues::{Call as AnyCall, residues, tried};
+use mlu_point::eq_batch::{
+    eval_eq_base_batch, eval_eq_base_batch_in_chunks, eval_eq_batch, eval_eq_batch_in_chunks,
+};
+use mlu_ring::{ExtensionField, Field, RowMajorMatrixView};
+use mlu_test_support::numbers::{are, elements};
+use std::alloc::{AllocError, Global};
 use std::test::Fail;
+
+#[derive(Clone, Copy)]
+pub enum Call {
+    EvalEqBatch,
+    EvalEqBaseBatch,
+    EvalEqBatchInChunks,
+    EvalEqBaseBatchInChunks,
+    NoPoints,
+}
+
+/// What becomes of the call. Fails where its inputs are refused.
+pub fn made<F: Field, EF: ExtensionField<F>>(
+    alloc: Global,
+    call: Call,
+) -> Result<Outcome, AllocError> {
+    match call {
+        Call::EvalEqBatch => batch::<F, EF>(alloc),
+        Call::EvalEqBaseBatch => base_batch::<F, EF>(alloc),
+        Call::EvalEqBatchInChunks => batch_in_chunks::<F, EF>(alloc),
+        Call::EvalEqBaseBatchInChunks => base_batch_in_chunks::<F, EF>(alloc),
+        Call::NoPoints => no_points::<F, EF>(alloc),
+    }
+}
+
+fn batch<F: Field, EF: ExtensionField<F>>(alloc: Global) -> Result<Outcome, AllocError> {
+    let values: Vec<EF> = elements(alloc, &[1, 0, 1, 0, 1, 1])?;
+    let scalars: Vec<EF> = elements(alloc, &[2, 3, 5])?;
+    let mut out: Vec<EF> = elements(alloc, &[9, 9, 9, 9])?;
+    let matrix = RowMajorMatrixView::new(values.as_slice(), 3);
+    let done = eval_eq_batch::<F, EF, false>(alloc, matrix, out.as_mut_slice(), scalars.as_slice());
+    Ok(written(done, out.as_slice(), &[0, 3, 2, 5], &[9, 9, 9, 9]))
+}
+
+fn base_batch<F: Field, EF: ExtensionField<F>>(alloc: Global) -> Result<Outcome, AllocError> {
+    let values: Vec<F> = elements(alloc, &[1, 0, 0, 1])?;
+    let scalars: Vec<EF> = elements(alloc, &[2, 3])?;
+    let mut out: Vec<EF> = elements(alloc, &[1, 1, 1, 1])?;
+    let matrix = RowMajorMatrixView::new(values.as_slice(), 2);
+    let done = eval_eq_base_batch::<F, EF, true>(
+        alloc,
+        matrix,
+        out.as_mut_slice(),
+        scalars.as_slice(),
+    );
+    Ok(written(done, out.as_slice(), &[1, 4, 3, 1], &[1, 1, 1, 1]))
+}
+
+/// The vertices 19 and 1 of five variables.
+const VERTICES: [i32; 10] = [1, 0, 0, 0, 0, 0, 1, 0, 1, 1];
+
+/// Two chunks, in lanes.
+fn batch_in_chunks<F: Field, EF: ExtensionField<F>>(alloc: Global) -> Result<Outcome, AllocError> {
+    let values: Vec<EF> = elements(alloc, &VERTICES)?;
+    let scalars: Vec<EF> = elements(alloc, &[2, 3])?;
+    let mut out: Vec<EF> = elements(alloc, &[9; 32])?;
+    let mut after = [0; 32];
+    after[19] = 2;
+    after[1] = 3;
+    let matrix = RowMajorMatrixView::new(values.as_slice(), 2);
+    let done = eval_eq_batch_in_chunks::<F, EF, false>(
+        alloc,
+        matrix,
+        out.as_mut_slice(),
+        scalars.as_slice(),
+        1,
+    );
+    Ok(written(done, out.as_slice(), &after, &[9; 32]))
+}
+
+fn base_batch_in_chunks<F: Field, EF: ExtensionField<F>>(
+    alloc: Global,
+) -> Result<Outcome, AllocError> {
+    let values: Vec<F> = elements(alloc, &VERTICES)?;
+    let scalars: Vec<EF> = elements(alloc, &[2, 3])?;
+    let mut out: Vec<EF> = elements(alloc, &[1; 32])?;
+    let mut after = [1; 32];
+    after[19] = 3;
+    after[1] = 4;
+    let matrix = RowMajorMatrixView::new(values.as_slice(), 2);
+    let done = eval_eq_base_batch_in_chunks::<F, EF, true>(
+        alloc,
+        matrix,
+        out.as_mut_slice(),
+        scalars.as_slice(),
+        1,
+    );
+    Ok(written(done, out.as_slice(), &after, &[1; 32]))
+}
+
+/// Takes no memory.
+fn no_points<F: Field, EF: ExtensionField<F>>(alloc: Global) -> Result<Outcome, AllocError> {
+    let mut out: Vec<EF> = elements(alloc, &[9, 9, 9])?;
+    let none: RowMajorMatrixView<'_, EF> = RowMajorMatrixView::new(&[], 0);
+    let added = eval_eq_batch::<F, EF, true>(alloc, none, out.as_mut_slice(), &[]);
+    let added_in_chunks = eval_eq_batch_in_chunks::<F, EF, true>(
+        alloc,
+        none,
+        out.as_mut_slice(),
+        &[],
+        1,
+    );
+    let kept = are(out.as_slice(), &[9, 9, 9]);
+    let base: RowMajorMatrixView<'_, F> = RowMajorMatrixView::new(&[], 0);
+    let cleared = eval_eq_base_batch::<F, EF, false>(alloc, base, out.as_mut_slice(), &[]);
+    let cleared_in_chunks = eval_eq_base_batch_in_chunks::<F, EF, false>(
+        alloc,
+        base,
+        out.as_mut_slice(),
+        &[],
+        1,
+    );
+    let zeros = are(out.as_slice(), &[0, 0, 0]);
+    let served = added.is_ok() && cleared.is_ok();
+    let served_in_chunks = added_in_chunks.is_ok() && cleared_in_chunks.is_ok();
+    Ok(judge(Ok(served && served_in_chunks), kept && zeros))
+}
 
 #[test]
 fn eval_eq_batch_written(rt: HostRuntime) -> Result<(), Fail> {
-    let values = [1, 0, 1, 0, 1, 1].map(element);
-    let scalars = [2, 3, 5].map(element);
-    let mut out = [9; 4].map(element);
-    let matrix = RowMajorMatrixView::new(&values, 3);
-    let written = outcome(
-        &rt,
-        "eval_eq_batch",
-        eval_eq_batch::<Element, Element, false>(rt.alloc(), matrix, &mut out, &scalars),
-    )?;
-    let wanted = if written.is_some() {
-        [0, 3, 2, 5]
-    } else {
-        [9; 4]
-    };
-    assert!(rt; out == wanted.map(element));
-    Ok(())
+    tried(&rt, "eval_eq_batch", AnyCall::Batch(Call::EvalEqBatch))
 }
 
 #[test]
 fn eval_eq_base_batch_added(rt: HostRuntime) -> Result<(), Fail> {
-    let values = [1, 0, 0, 1].map(element);
-    let scalars = [2, 3].map(element);
-    let mut out = [1; 4].map(element);
-    let matrix = RowMajorMatrixView::new(&values, 2);
-    let added = outcome(
+    tried(
         &rt,
         "eval_eq_base_batch",
-        eval_eq_base_batch::<Element, Element, true>(rt.alloc(), matrix, &mut out, &scalars),
-    )?;
-    let wanted = if added.is_some() {
-        [1, 4, 3, 1]
-    } else {
-        [1; 4]
-    };
-    assert!(rt; out == wanted.map(element));
-    Ok(())
+        AnyCall::Batch(Call::EvalEqBaseBatch),
+    )
+}
+
+#[test]
+fn eval_eq_batch_in_chunks_written(rt: HostRuntime) -> Result<(), Fail> {
+    tried(
+        &rt,
+        "eval_eq_batch_in_chunks",
+        AnyCall::Batch(Call::EvalEqBatchInChunks),
+    )
+}
+
+#[test]
+fn eval_eq_base_batch_in_chunks_added(rt: HostRuntime) -> Result<(), Fail> {
+    tried(
+        &rt,
+        "eval_eq_base_batch_in_chunks",
+        AnyCall::Batch(Call::EvalEqBaseBatchInChunks),
+    )
 }
 
 #[test]
 fn no_points_take_no_memory(rt: HostRuntime) {
-    let matrix: RowMajorMatrixView<'_, Element> = RowMajorMatrixView::new(&[], 0);
-    let mut out = [9; 3].map(element);
-    assert!(rt; eval_eq_batch::<Element, Element, true>(rt.alloc(), matrix, &mut out, &[]).is_ok());
-    assert!(rt; out == [9; 3].map(element));
-    assert!(rt;
-        eval_eq_base_batch::<Element, Element, false>(rt.alloc(), matrix, &mut out, &[]).is_ok()
-    );
-    assert!(rt; out == [0; 3].map(element));
+    assert!(rt; is_served(residues(rt.alloc(), AnyCall::Batch(Call::NoPoints))));
 }

@@ -1,125 +1,135 @@
 //! Evaluations below the threshold, which take no memory, and from it on.
-ghost use Rattle.std.specs.Prelude.{◌≡◌, ◌^◌, length, IfOk};
+ghost use Rattle.std.specs.Prelude.{◌≡◌, length, IfOk};
 
-use crate::outcome::{Element, element, outcome, point};
-use mlu_lanes::Lanes;
+use crate::outcome::{Outcome, is_served, judge};
+use crate::residues::{Call as AnyCall, residues, tried};
 use mlu_point::point::Point;
+use mlu_ring::{Additive, ExtensionField, Field};
+use mlu_test_support::numbers::{element, elements};
 use multilinear_util::poly::{Poly, PolyMaybePacked};
 use std::alloc::{AllocError, Global};
 use std::test::Fail;
 
-type Storage = PolyMaybePacked<Element, Element>;
+#[derive(Clone, Copy)]
+pub enum Call {
+    Below,
+    EvalBase,
+    EvalExt,
+    EvalStorage,
+    CloneStorage,
+}
 
-/// The polynomial with the values 0, 1, .., 255, and the point of eight coordinates 2.
-fn below(alloc: Global) -> Result<(Poly<Element>, Point<Element>), AllocError>
-    ensures { IfOk result (λ given. length given.0 ≡ 2 ^ length given.1) }
+/// What becomes of the call. Fails where its inputs are refused.
+pub fn made<F: Field, EF: ExtensionField<F>>(
+    alloc: Global,
+    call: Call,
+) -> Result<Outcome, AllocError> {
+    match call {
+        Call::Below => below::<F, EF>(alloc),
+        Call::EvalBase => eval_base::<F, EF>(alloc),
+        Call::EvalExt => eval_ext::<F, EF>(alloc),
+        Call::EvalStorage => eval_storage::<F, EF>(alloc),
+        Call::CloneStorage => clone_storage::<F, EF>(alloc),
+    }
+}
+
+/// The polynomial with the values 0, 1, .., of so many entries.
+fn counted<R: Additive>(alloc: Global, entries: usize) -> Result<Poly<R>, AllocError>
+    ensures { IfOk result (λ poly. length poly ≡ entries) }
 {
-    let evals: Vec<Element> = (0..256).map(element).collect(alloc)?;
-    if !evals.len().is_power_of_two() {
+    let mut evals = Vec::with_capacity(alloc, entries)?;
+    let mut value = R::ZERO;
+    for _ in 0..entries {
+        evals.push(value)?;
+        value = value + R::ONE;
+    }
+    if evals.len() != entries || !entries.is_power_of_two() {
         return Err(AllocError);
     }
-    let coordinates = Vec::from_slice(alloc, &[element(2); 8])?;
-    Ok((Poly::new(evals), Point::new(coordinates)))
+    Ok(Poly::new(evals))
 }
 
-/// The polynomial with the values 0, 1, .., 511, and the point of nine coordinates 2.
-fn above(alloc: Global) -> Result<(Poly<Element>, Point<Element>), AllocError>
-    ensures { IfOk result (λ given. length given.0 ≡ 2 ^ length given.1) }
+/// The point of nine coordinates 2.
+fn long_point<R: Additive>(alloc: Global) -> Result<Point<R>, AllocError>
+    ensures { IfOk result (λ point. length point ≡ 9) }
 {
-    let evals: Vec<Element> = (0..512).map(element).collect(alloc)?;
-    if !evals.len().is_power_of_two() {
-        return Err(AllocError);
-    }
-    let coordinates = Vec::from_slice(alloc, &[element(2); 9])?;
-    Ok((Poly::new(evals), Point::new(coordinates)))
+    Ok(Point::new(elements(alloc, &[2; 9])?))
 }
 
-/// Served whichever allocation fails.
-#[test]
-fn evaluations_below_the_threshold(rt: HostRuntime) -> Result<(), Fail> {
-    let Ok((poly, point)) = below(rt.alloc()) else {
-        return Ok(())
-    };
-    let value = Ok(element(510));
-    assert_eq!(rt; poly.eval_base(rt.alloc(), &point), value);
-    assert_eq!(rt; poly.eval_ext::<Element>(rt.alloc(), &point), value);
-    Ok(())
+/// The outcome of a call that gives a value.
+fn valued<R: Additive>(answer: Result<R, AllocError>, number: i32) -> Outcome {
+    match answer {
+        Ok(value) => judge(Ok(value == element(number)), true),
+        Err(refused) => judge(Err(refused), true),
+    }
 }
 
-#[test]
-fn eval_base(rt: HostRuntime) -> Result<(), Fail> {
-    let Ok((poly, point)) = above(rt.alloc()) else {
-        return Ok(())
-    };
-    let value = outcome(&rt, "Poly::eval_base", poly.eval_base(rt.alloc(), &point))?;
-    if let Some(value) = value {
-        assert_eq!(rt; value, element(1022));
-    }
-    Ok(())
+/// Takes no memory.
+fn below<F: Field, EF: ExtensionField<F>>(alloc: Global) -> Result<Outcome, AllocError> {
+    let point: Point<EF> = Point::new(elements(alloc, &[2; 8])?);
+    let base = counted::<F>(alloc, 256)?;
+    let of_base = base.eval_base(alloc, &point) == Ok(element(510));
+    let poly = counted::<EF>(alloc, 256)?;
+    let of_extension = poly.eval_ext::<F>(alloc, &point) == Ok(element(510));
+    Ok(judge(Ok(of_base), of_extension))
 }
 
-#[test]
-fn eval_ext(rt: HostRuntime) -> Result<(), Fail> {
-    let Ok((poly, point)) = above(rt.alloc()) else {
-        return Ok(())
-    };
-    let value = outcome(
-        &rt,
-        "Poly::eval_ext",
-        poly.eval_ext::<Element>(rt.alloc(), &point),
-    )?;
-    if let Some(value) = value {
-        assert_eq!(rt; value, element(1022));
-    }
-    Ok(())
+fn eval_base<F: Field, EF: ExtensionField<F>>(alloc: Global) -> Result<Outcome, AllocError> {
+    let poly = counted::<F>(alloc, 512)?;
+    let point = long_point::<EF>(alloc)?;
+    Ok(valued(poly.eval_base(alloc, &point), 1022))
 }
 
-#[test]
-fn eval_packed(rt: HostRuntime) -> Result<(), Fail> {
-    let Ok(point) = point(rt.alloc()) else {
-        return Ok(())
-    };
-    let lanes = [[1, 2, 3, 4], [5, 6, 7, 8]].map(|row| Lanes::from_array(row.map(element)));
-    let Ok(evals) = Vec::from_slice(rt.alloc(), &lanes) else {
-        return Ok(())
-    };
-    if !evals.len().is_power_of_two() {
-        return Ok(());
-    }
-    let poly = Poly::new(evals);
-    let value = outcome(
-        &rt,
-        "Poly::eval_packed",
-        poly.eval_packed::<Element, Element>(rt.alloc(), &point),
-    )?;
-    if let Some(value) = value {
-        assert_eq!(rt; value, element(20));
-    }
-    Ok(())
+fn eval_ext<F: Field, EF: ExtensionField<F>>(alloc: Global) -> Result<Outcome, AllocError> {
+    let poly = counted::<EF>(alloc, 512)?;
+    let point = long_point::<EF>(alloc)?;
+    Ok(valued(poly.eval_ext::<F>(alloc, &point), 1022))
 }
 
 /// A scalar storage from the threshold on, where its evaluation takes memory.
+fn eval_storage<F: Field, EF: ExtensionField<F>>(alloc: Global) -> Result<Outcome, AllocError> {
+    let storage: PolyMaybePacked<F, EF> = PolyMaybePacked::Scalar(counted::<EF>(alloc, 512)?);
+    let point = long_point::<EF>(alloc)?;
+    Ok(valued(storage.eval(alloc, &point), 1022))
+}
+
+fn clone_storage<F: Field, EF: ExtensionField<F>>(alloc: Global) -> Result<Outcome, AllocError> {
+    let storage: PolyMaybePacked<F, EF> = PolyMaybePacked::Scalar(counted::<EF>(alloc, 512)?);
+    Ok(match storage.try_clone(alloc) {
+        Ok(copy) => judge(Ok(copy.num_variables() == 9), true),
+        Err(refused) => judge(Err(refused), true),
+    })
+}
+
 #[test]
-fn scalar_storage(rt: HostRuntime) -> Result<(), Fail> {
-    let Ok((poly, point)) = above(rt.alloc()) else {
-        return Ok(())
-    };
-    let storage = Storage::Scalar(poly);
-    let value = outcome(
+fn value_of_base_elements(rt: HostRuntime) -> Result<(), Fail> {
+    tried(&rt, "Poly::eval_base", AnyCall::Evaluation(Call::EvalBase))
+}
+
+#[test]
+fn value_of_extension_elements(rt: HostRuntime) -> Result<(), Fail> {
+    tried(&rt, "Poly::eval_ext", AnyCall::Evaluation(Call::EvalExt))
+}
+
+#[test]
+fn value_of_storage(rt: HostRuntime) -> Result<(), Fail> {
+    tried(
         &rt,
         "PolyMaybePacked::eval",
-        storage.eval(rt.alloc(), &point),
-    )?;
-    if let Some(value) = value {
-        assert_eq!(rt; value, element(1022));
-    }
-    let copy = outcome(
+        AnyCall::Evaluation(Call::EvalStorage),
+    )
+}
+
+#[test]
+fn copied_storage(rt: HostRuntime) -> Result<(), Fail> {
+    tried(
         &rt,
         "PolyMaybePacked::try_clone",
-        storage.try_clone(rt.alloc()),
-    )?;
-    if let Some(copy) = copy {
-        assert_eq!(rt; copy.num_variables(), 9);
-    }
-    Ok(())
+        AnyCall::Evaluation(Call::CloneStorage),
+    )
+}
+
+#[test]
+fn evaluations_below_the_threshold(rt: HostRuntime) {
+    assert!(rt; is_served(residues(rt.alloc(), AnyCall::Evaluation(Call::Below))));
 }

@@ -2,8 +2,12 @@
 //!
 //! Each test builds its inputs, makes one call, and says on standard output whether the call was
 //! refused or served. Refused, it compares the inputs with what they were; served, it compares the
-//! answer. A set-up that is refused ends the test quietly. `check.sh` runs the tests with the
+//! answer too. A set-up that is refused ends the test quietly. `check.sh` runs the tests with the
 //! first, the second, .. allocation of each failing, until none is refused any more.
+//!
+//! A call is a function over any rings, which gives whether the answer is right and fails only where
+//! the call is refused; so all that it needs is made before it. `residues` alone names a ring,
+//! since each function that does takes long to prove.
 //!
 //! Stands on every crate whose calls take memory; nothing stands on it.
 #![tactic(auto)]
@@ -11,13 +15,21 @@
 #[cfg(test)]
 mod batches;
 #[cfg(test)]
+mod compressions;
+#[cfg(test)]
 mod evaluations;
 #[cfg(test)]
+mod given;
+#[cfg(test)]
 mod outcome;
+#[cfg(test)]
+mod packings;
 #[cfg(test)]
 mod points;
 #[cfg(test)]
 mod polys;
+#[cfg(test)]
+mod residues;
 #[cfg(test)]
 mod splits;
 #[cfg(test)]

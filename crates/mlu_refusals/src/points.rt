@@ -1,181 +1,240 @@
-use crate::outcome::{Element, element, is_point, outcome, point};
-use mlu_point::point::{Point, PointView};
+//! Calls of a point that owns its coordinates.
+ghost use Rattle.std.specs.Prelude.{◌≡◌, ◌^◌, ◌<◌, ◌≤◌, length};
+
+use crate::given::{is_point, point};
+use crate::outcome::{Outcome, judge, written};
+use crate::residues::{Call as AnyCall, tried};
+use mlu_point::point::{BitOrder, Point, PointView};
+use mlu_ring::{Additive, Counter, Field, PrimeCharacteristicRing, Sample, Unmetered};
+use mlu_test_support::numbers::{are, element, elements};
 use rand_core::SeedableRng;
 use rand_pcg::Pcg32;
+use std::alloc::{AllocError, Global};
+use std::slice;
 use std::test::Fail;
+
+#[derive(Clone, Copy)]
+pub enum Call {
+    EqualityWeightsMsb,
+    EqualityWeightsLsb,
+    EqualityWeightsMetered,
+    FillEqualityTableInChunks,
+    GetSubpointOverRange,
+    Reversed,
+    SplitAt,
+    TryClone,
+    Extend,
+    Hypercube,
+    ExpandFromUnivariate,
+    Transpose,
+    Rand,
+}
+
+/// What becomes of the call. Fails where its inputs are refused.
+pub fn made<R: Field + Sample>(alloc: Global, call: Call) -> Result<Outcome, AllocError> {
+    let point = point::<R>(alloc)?;
+    let answered = match call {
+        Call::EqualityWeightsMsb => weights_msb(alloc, &point),
+        Call::EqualityWeightsLsb => weights_lsb(alloc, &point),
+        Call::EqualityWeightsMetered => weights_metered(alloc, &point),
+        Call::FillEqualityTableInChunks => return fill_in_chunks(alloc, &point),
+        Call::GetSubpointOverRange => subpoint(alloc, &point),
+        Call::Reversed => reversed(alloc, &point),
+        Call::SplitAt => split_at(alloc, &point),
+        Call::TryClone => try_clone(alloc, &point),
+        Call::Extend => return extend(alloc, &point),
+        Call::Hypercube => hypercube::<R>(alloc),
+        Call::ExpandFromUnivariate => powers::<R>(alloc),
+        Call::Transpose => transpose(alloc, slice::from_ref(&point)),
+        Call::Rand => rand::<R>(alloc),
+    };
+    Ok(judge(answered, is_point(&point)))
+}
+
+fn weights_msb<R: Field>(alloc: Global, point: &Point<R>) -> Result<bool, AllocError>
+    requires { 2 ^ length point.now < 2 ^ 64 }
+{
+    let weights = point.equality_weights_msb(alloc)?;
+    Ok(are(weights.as_slice(), &[-8, 10, 12, -15, 16, -20, -24, 30]))
+}
+
+fn weights_lsb<R: Field>(alloc: Global, point: &Point<R>) -> Result<bool, AllocError>
+    requires { 2 ^ length point.now < 2 ^ 64 }
+{
+    let weights = point.equality_weights_lsb(alloc)?;
+    Ok(are(weights.as_slice(), &[-8, 16, 12, -24, 10, -20, -15, 30]))
+}
+
+fn weights_metered<R: Field>(alloc: Global, point: &Point<R>) -> Result<bool, AllocError>
+    requires fits { 2 ^ length point.now < 2 ^ 64 }
+    requires low { 1 ≤ length point.now }
+{
+    let weights = point.equality_weights_metered(alloc, BitOrder::Lsb, 1, &mut Unmetered::new())?;
+    Ok(are(weights.as_slice(), &[-8, 16, 12, -24, 10, -20, -15, 30]))
+}
+
+/// A refused growth leaves the output as it was, and the meter.
+fn fill_in_chunks<R: Field>(alloc: Global, point: &Point<R>) -> Result<Outcome, AllocError>
+    requires { length point.now ≡ 3 }
+{
+    let mut out: Vec<R> = elements(alloc, &[9; 8])?;
+    let mut meter = Counter::new();
+    let done = point.fill_equality_table_in_chunks(
+        alloc,
+        out.as_mut_slice(),
+        BitOrder::Msb,
+        R::TWO,
+        1,
+        &mut meter,
+    );
+    let products = if done.is_ok() { 7 } else { 0 };
+    if meter.made() != products {
+        return Ok(Outcome::Wrong);
+    }
+    Ok(written(
+        done,
+        out.as_slice(),
+        &[-16, 20, 24, -30, 32, -40, -48, 60],
+        &[9; 8],
+    ))
+}
+
+fn subpoint<R: Additive>(alloc: Global, point: &Point<R>) -> Result<bool, AllocError>
+    requires { length point.now ≡ 3 }
+{
+    Ok(are(point.get_subpoint_over_range(alloc, 1..2)?.as_slice(), &[3]))
+}
+
+fn reversed<R: Additive>(alloc: Global, point: &Point<R>) -> Result<bool, AllocError> {
+    Ok(are(point.reversed(alloc)?.as_slice(), &[5, 3, 2]))
+}
+
+fn split_at<R: Additive>(alloc: Global, point: &Point<R>) -> Result<bool, AllocError>
+    requires { length point.now ≡ 3 }
+{
+    let (first, rest) = point.split_at(alloc, 1)?;
+    Ok(are(first.as_slice(), &[2]) && are(rest.as_slice(), &[3, 5]))
+}
+
+fn try_clone<R: Additive>(alloc: Global, point: &Point<R>) -> Result<bool, AllocError> {
+    Ok(is_point(&point.try_clone(alloc)?))
+}
+
+/// A refused growth leaves the point as it was. A copy has no room left, so that it has to grow.
+fn extend<R: Additive>(alloc: Global, point: &Point<R>) -> Result<Outcome, AllocError> {
+    let mut point = point.try_clone(alloc)?;
+    let more: Vec<R> = elements(alloc, &[7])?;
+    let done = point.extend(PointView::new(more.as_slice()));
+    Ok(written(done, point.as_slice(), &[2, 3, 5, 7], &[2, 3, 5]))
+}
+
+fn hypercube<R: Field>(alloc: Global) -> Result<bool, AllocError> {
+    let vertex = Point::<R>::hypercube(alloc, 5, 3)?;
+    Ok(are(vertex.as_slice(), &[1, 0, 1]))
+}
+
+fn powers<R: Field>(alloc: Global) -> Result<bool, AllocError> {
+    let powers = Point::<R>::expand_from_univariate(alloc, element(3), 3)?;
+    Ok(are(powers.as_slice(), &[81, 9, 3]))
+}
+
+fn transpose<R: Field>(alloc: Global, points: &[Point<R>]) -> Result<bool, AllocError>
+    requires { length points.now ≡ 1 }
+{
+    let matrix = Point::transpose(alloc, points, true)?;
+    Ok(are(matrix.values.as_slice(), &[5, 3, 2]) && matrix.width() == 1)
+}
+
+fn rand<T: Sample + Copy>(alloc: Global) -> Result<bool, AllocError> {
+    let mut rng = Pcg32::seed_from_u64(1);
+    Ok(Point::<T>::rand(alloc, &mut rng, 5)?.num_variables() == 5)
+}
 
 #[test]
 fn equality_weights_msb(rt: HostRuntime) -> Result<(), Fail> {
-    let Ok(point) = point(rt.alloc()) else {
-        return Ok(())
-    };
-    let table = outcome(
+    tried(
         &rt,
         "Point::equality_weights_msb",
-        point.equality_weights_msb(rt.alloc()),
-    )?;
-    assert!(rt; is_point(point.as_slice()));
-    if let Some(table) = table {
-        let weights = [
-            2013265913, 10, 12, 2013265906, 16, 2013265901, 2013265897, 30,
-        ];
-        assert!(rt; table.as_slice() == weights.map(element).as_slice());
-    }
-    Ok(())
+        AnyCall::Point(Call::EqualityWeightsMsb),
+    )
 }
 
 #[test]
 fn equality_weights_lsb(rt: HostRuntime) -> Result<(), Fail> {
-    let Ok(point) = point(rt.alloc()) else {
-        return Ok(())
-    };
-    let table = outcome(
+    tried(
         &rt,
         "Point::equality_weights_lsb",
-        point.equality_weights_lsb(rt.alloc()),
-    )?;
-    assert!(rt; is_point(point.as_slice()));
-    if let Some(table) = table {
-        let weights = [
-            2013265913, 16, 12, 2013265897, 10, 2013265901, 2013265906, 30,
-        ];
-        assert!(rt; table.as_slice() == weights.map(element).as_slice());
-    }
-    Ok(())
+        AnyCall::Point(Call::EqualityWeightsLsb),
+    )
+}
+
+#[test]
+fn equality_weights_metered(rt: HostRuntime) -> Result<(), Fail> {
+    tried(
+        &rt,
+        "Point::equality_weights_metered",
+        AnyCall::Point(Call::EqualityWeightsMetered),
+    )
+}
+
+#[test]
+fn fill_equality_table_in_chunks(rt: HostRuntime) -> Result<(), Fail> {
+    tried(
+        &rt,
+        "Point::fill_equality_table_in_chunks",
+        AnyCall::Point(Call::FillEqualityTableInChunks),
+    )
 }
 
 #[test]
 fn get_subpoint_over_range(rt: HostRuntime) -> Result<(), Fail> {
-    let Ok(point) = point(rt.alloc()) else {
-        return Ok(())
-    };
-    assert_eq!(rt; point.num_variables(), 3);
-    let part = outcome(
+    tried(
         &rt,
         "Point::get_subpoint_over_range",
-        point.get_subpoint_over_range(rt.alloc(), 1..2),
-    )?;
-    assert!(rt; is_point(point.as_slice()));
-    if let Some(part) = part {
-        assert!(rt; part.as_slice() == [element(3)].as_slice());
-    }
-    Ok(())
+        AnyCall::Point(Call::GetSubpointOverRange),
+    )
 }
 
 #[test]
-fn reversed(rt: HostRuntime) -> Result<(), Fail> {
-    let Ok(point) = point(rt.alloc()) else {
-        return Ok(())
-    };
-    let mirrored = outcome(&rt, "Point::reversed", point.reversed(rt.alloc()))?;
-    assert!(rt; is_point(point.as_slice()));
-    if let Some(mirrored) = mirrored {
-        assert!(rt; mirrored.as_slice() == [element(5), element(3), element(2)].as_slice());
-    }
-    Ok(())
+fn reversed_point(rt: HostRuntime) -> Result<(), Fail> {
+    tried(&rt, "Point::reversed", AnyCall::Point(Call::Reversed))
 }
 
 #[test]
-fn split_at(rt: HostRuntime) -> Result<(), Fail> {
-    let Ok(point) = point(rt.alloc()) else {
-        return Ok(())
-    };
-    assert_eq!(rt; point.num_variables(), 3);
-    let parts = outcome(&rt, "Point::split_at", point.split_at(rt.alloc(), 1))?;
-    assert!(rt; is_point(point.as_slice()));
-    if let Some((first, rest)) = parts {
-        assert!(rt; first.as_slice() == [element(2)].as_slice());
-        assert!(rt; rest.as_slice() == [element(3), element(5)].as_slice());
-    }
-    Ok(())
+fn split_at_a_coordinate(rt: HostRuntime) -> Result<(), Fail> {
+    tried(&rt, "Point::split_at", AnyCall::Point(Call::SplitAt))
 }
 
 #[test]
-fn try_clone(rt: HostRuntime) -> Result<(), Fail> {
-    let Ok(point) = point(rt.alloc()) else {
-        return Ok(())
-    };
-    let copy = outcome(&rt, "Point::try_clone", point.try_clone(rt.alloc()))?;
-    assert!(rt; is_point(point.as_slice()));
-    if let Some(copy) = copy {
-        assert!(rt; is_point(copy.as_slice()));
-    }
-    Ok(())
+fn copied_point(rt: HostRuntime) -> Result<(), Fail> {
+    tried(&rt, "Point::try_clone", AnyCall::Point(Call::TryClone))
 }
 
 #[test]
-fn extend(rt: HostRuntime) -> Result<(), Fail> {
-    let Ok(mut point) = point(rt.alloc()) else {
-        return Ok(())
-    };
-    let more = [element(7)];
-    let grown = outcome(&rt, "Point::extend", point.extend(PointView::new(&more)))?;
-    if grown.is_some() {
-        assert!(rt;
-            point.as_slice() == [element(2), element(3), element(5), element(7)].as_slice()
-        );
-    } else {
-        assert!(rt; is_point(point.as_slice()));
-    }
-    Ok(())
+fn extended_point(rt: HostRuntime) -> Result<(), Fail> {
+    tried(&rt, "Point::extend", AnyCall::Point(Call::Extend))
 }
 
 #[test]
-fn hypercube(rt: HostRuntime) -> Result<(), Fail> {
-    let vertex = outcome(
-        &rt,
-        "Point::hypercube",
-        Point::<Element>::hypercube(rt.alloc(), 5, 3),
-    )?;
-    if let Some(vertex) = vertex {
-        assert!(rt; vertex.as_slice() == [element(1), element(0), element(1)].as_slice());
-    }
-    Ok(())
+fn vertex(rt: HostRuntime) -> Result<(), Fail> {
+    tried(&rt, "Point::hypercube", AnyCall::Point(Call::Hypercube))
 }
 
 #[test]
 fn expand_from_univariate(rt: HostRuntime) -> Result<(), Fail> {
-    let powers = outcome(
+    tried(
         &rt,
         "Point::expand_from_univariate",
-        Point::expand_from_univariate(rt.alloc(), element(3), 3),
-    )?;
-    if let Some(powers) = powers {
-        assert!(rt; powers.as_slice() == [element(81), element(9), element(3)].as_slice());
-    }
-    Ok(())
+        AnyCall::Point(Call::ExpandFromUnivariate),
+    )
 }
 
 #[test]
-fn transpose(rt: HostRuntime) -> Result<(), Fail> {
-    let Ok(first) = point(rt.alloc()) else {
-        return Ok(())
-    };
-    let points = [first];
-    assert_eq!(rt; points[0].num_variables(), 3);
-    let matrix = outcome(
-        &rt,
-        "Point::transpose",
-        Point::transpose(rt.alloc(), &points, true),
-    )?;
-    assert!(rt; is_point(points[0].as_slice()));
-    if let Some(matrix) = matrix {
-        assert!(rt; matrix.values.as_slice() == [element(5), element(3), element(2)].as_slice());
-        assert_eq!(rt; matrix.width(), 1);
-    }
-    Ok(())
+fn transposed_points(rt: HostRuntime) -> Result<(), Fail> {
+    tried(&rt, "Point::transpose", AnyCall::Point(Call::Transpose))
 }
 
 #[test]
-fn rand(rt: HostRuntime) -> Result<(), Fail> {
-    let mut rng = Pcg32::seed_from_u64(1);
-    let drawn = outcome(
-        &rt,
-        "Point::rand",
-        Point::<Element>::rand(rt.alloc(), &mut rng, 5),
-    )?;
-    if let Some(drawn) = drawn {
-        assert_eq!(rt; drawn.num_variables(), 5);
-    }
-    Ok(())
+fn drawn_point(rt: HostRuntime) -> Result<(), Fail> {
+    tried(&rt, "Point::rand", AnyCall::Point(Call::Rand))
 }

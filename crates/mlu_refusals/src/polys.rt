@@ -1,212 +1,231 @@
-use crate::outcome::{Element, element, is_poly, outcome, poly};
-use mlu_point::point::Point;
-use multilinear_util::poly::{Poly, PolyMaybePacked};
+//! Calls of a polynomial.
+ghost use Rattle.std.specs.Prelude.{◌≡◌, ◌≤◌, ◌<◌, length};
+
+use crate::given::{is_poly, point, poly};
+use crate::outcome::{Outcome, judge, written};
+use crate::residues::{Call as AnyCall, tried};
+use mlu_ring::{Additive, Algebra, ExtensionField, Field, PrimeCharacteristicRing, Sample};
+use mlu_test_support::numbers::{are, element};
+use multilinear_util::poly::Poly;
 use rand_core::SeedableRng;
 use rand_pcg::Pcg32;
+use std::alloc::{AllocError, Global};
 use std::test::Fail;
 
-#[test]
-fn zero(rt: HostRuntime) -> Result<(), Fail> {
-    let made = outcome(&rt, "Poly::zero", Poly::<Element>::zero(rt.alloc(), 2))?;
-    if let Some(made) = made {
-        assert!(rt; made.as_slice() == [element(0); 4].as_slice());
-    }
-    Ok(())
+#[derive(Clone, Copy)]
+pub enum Call {
+    Zero,
+    PadZeros,
+    Rand,
+    TryClone,
+    NewFromPoint,
+    NewPackedFromPoint,
+    FixPrefixVar,
+    FixPrefixVarToPacked,
+    FixSuffixVar,
+    FixSuffixVarMutSplit,
 }
 
-#[test]
-fn pad_zeros(rt: HostRuntime) -> Result<(), Fail> {
-    let Ok(mut poly) = poly(rt.alloc()) else {
-        return Ok(())
+/// What becomes of the call. Fails where its inputs are refused.
+pub fn made<F: Field + Sample, EF: ExtensionField<F>>(
+    alloc: Global,
+    call: Call,
+) -> Result<Outcome, AllocError>
+    requires lanes { F.Packing.WIDTH ≡ 4 }
+    requires log_lanes { F.Packing.LOG_WIDTH ≡ 2 }
+{
+    let poly = poly::<F>(alloc)?;
+    let answered = match call {
+        Call::Zero => zero::<F>(alloc),
+        Call::PadZeros => return Ok(pad_zeros(poly)),
+        Call::Rand => rand::<F>(alloc),
+        Call::TryClone => try_clone(alloc, &poly),
+        Call::NewFromPoint => new_from_point(alloc, poly.as_slice()),
+        Call::NewPackedFromPoint => return new_packed_from_point::<F, EF>(alloc),
+        Call::FixPrefixVar => fix_prefix_var::<F, EF>(alloc, &poly),
+        Call::FixPrefixVarToPacked => fix_prefix_var_to_packed::<F, EF>(alloc, &poly),
+        Call::FixSuffixVar => fix_suffix_var::<F, EF>(alloc, &poly),
+        Call::FixSuffixVarMutSplit => return fix_suffix_var_mut_split::<F, EF>(alloc),
     };
-    let grown = outcome(&rt, "Poly::pad_zeros", poly.pad_zeros(4))?;
-    if grown.is_some() {
-        assert_eq!(rt; poly.num_evals(), 16);
-        assert!(rt; is_poly(&poly.as_slice()[..8]));
-    } else {
-        assert!(rt; is_poly(poly.as_slice()));
-    }
-    Ok(())
+    Ok(judge(answered, is_poly(poly.as_slice())))
 }
 
-#[test]
-fn rand(rt: HostRuntime) -> Result<(), Fail> {
+fn zero<R: PrimeCharacteristicRing>(alloc: Global) -> Result<bool, AllocError> {
+    Ok(are(Poly::<R>::zero(alloc, 2)?.as_slice(), &[0, 0, 0, 0]))
+}
+
+/// A refused growth leaves the polynomial as it was.
+fn pad_zeros<R: PrimeCharacteristicRing>(mut poly: Poly<R>) -> Outcome
+    requires { length poly ≡ 8 }
+{
+    let done = poly.pad_zeros(4);
+    written(
+        done,
+        poly.as_slice(),
+        &[1, 2, 3, 4, 5, 6, 7, 8, 0, 0, 0, 0, 0, 0, 0, 0],
+        &[1, 2, 3, 4, 5, 6, 7, 8],
+    )
+}
+
+fn rand<T: Sample + Copy>(alloc: Global) -> Result<bool, AllocError> {
     let mut rng = Pcg32::seed_from_u64(1);
-    let drawn = outcome(
-        &rt,
-        "Poly::rand",
-        Poly::<Element>::rand(rt.alloc(), &mut rng, 3),
-    )?;
-    if let Some(drawn) = drawn {
-        assert_eq!(rt; drawn.num_evals(), 8);
-    }
-    Ok(())
+    Ok(Poly::<T>::rand(alloc, &mut rng, 3)?.num_evals() == 8)
+}
+
+fn try_clone<R: Additive>(alloc: Global, poly: &Poly<R>) -> Result<bool, AllocError> {
+    Ok(is_poly(poly.try_clone(alloc)?.as_slice()))
+}
+
+/// Five times the table of the point (2, 3).
+fn new_from_point<R: PrimeCharacteristicRing>(
+    alloc: Global,
+    numbers: &[R],
+) -> Result<bool, AllocError>
+    requires { length numbers.now ≡ 8 }
+{
+    let table = Poly::new_from_point(alloc, &numbers[1..3], element(5))?;
+    Ok(are(table.as_slice(), &[10, -15, -20, 30]))
+}
+
+fn new_packed_from_point<F: Field, EF: ExtensionField<F>>(
+    alloc: Global,
+) -> Result<Outcome, AllocError>
+    requires { F.Packing.LOG_WIDTH ≡ 2 }
+{
+    let point = point::<EF>(alloc)?;
+    let answered = packed_table::<F, EF>(alloc, point.as_slice());
+    Ok(judge(answered, true))
+}
+
+fn packed_table<F: Field, EF: ExtensionField<F>>(
+    alloc: Global,
+    point: &[EF],
+) -> Result<bool, AllocError>
+    requires lanes { F.Packing.LOG_WIDTH ≡ 2 }
+    requires point { length point.now ≡ 3 }
+{
+    let table = Poly::new_packed_from_point::<F, EF>(alloc, point, EF::ONE)?;
+    Ok(table.num_evals() == 2)
+}
+
+fn fix_prefix_var<F: PrimeCharacteristicRing, EF: Algebra<F>>(
+    alloc: Global,
+    poly: &Poly<F>,
+) -> Result<bool, AllocError>
+    requires { length poly.now ≡ 8 }
+{
+    Ok(are(
+        poly.fix_prefix_var(alloc, EF::TWO)?.as_slice(),
+        &[9, 10, 11, 12],
+    ))
+}
+
+fn fix_prefix_var_to_packed<F: Field, EF: ExtensionField<F>>(
+    alloc: Global,
+    poly: &Poly<F>,
+) -> Result<bool, AllocError>
+    requires lanes { F.Packing.WIDTH ≡ 4 }
+    requires poly { length poly.now ≡ 8 }
+{
+    Ok(poly.fix_prefix_var_to_packed(alloc, EF::TWO)?.num_evals() == 1)
+}
+
+fn fix_suffix_var<F: PrimeCharacteristicRing, EF: Algebra<F>>(
+    alloc: Global,
+    poly: &Poly<F>,
+) -> Result<bool, AllocError>
+    requires { length poly.now ≡ 8 }
+{
+    Ok(are(
+        poly.as_view().fix_suffix_var(alloc, EF::TWO)?.as_slice(),
+        &[3, 5, 7, 9],
+    ))
+}
+
+/// A refused fold leaves the polynomial as it was.
+fn fix_suffix_var_mut_split<F: PrimeCharacteristicRing, EF: Algebra<F>>(
+    alloc: Global,
+) -> Result<Outcome, AllocError> {
+    let mut poly = poly::<EF>(alloc)?;
+    let done = poly.fix_suffix_var_mut_split(alloc, F::TWO);
+    Ok(written(
+        done,
+        poly.as_slice(),
+        &[3, 5, 7, 9],
+        &[1, 2, 3, 4, 5, 6, 7, 8],
+    ))
 }
 
 #[test]
-fn try_clone(rt: HostRuntime) -> Result<(), Fail> {
-    let Ok(poly) = poly(rt.alloc()) else {
-        return Ok(())
-    };
-    let copy = outcome(&rt, "Poly::try_clone", poly.try_clone(rt.alloc()))?;
-    assert!(rt; is_poly(poly.as_slice()));
-    if let Some(copy) = copy {
-        assert!(rt; is_poly(copy.as_slice()));
-    }
-    Ok(())
+fn zeros(rt: HostRuntime) -> Result<(), Fail> {
+    tried(&rt, "Poly::zero", AnyCall::Poly(Call::Zero))
 }
 
 #[test]
-fn new_from_point(rt: HostRuntime) -> Result<(), Fail> {
-    let point = [element(2), element(3)];
-    let table = outcome(
+fn padded_poly(rt: HostRuntime) -> Result<(), Fail> {
+    tried(&rt, "Poly::pad_zeros", AnyCall::Poly(Call::PadZeros))
+}
+
+#[test]
+fn drawn_poly(rt: HostRuntime) -> Result<(), Fail> {
+    tried(&rt, "Poly::rand", AnyCall::Poly(Call::Rand))
+}
+
+#[test]
+fn copied_poly(rt: HostRuntime) -> Result<(), Fail> {
+    tried(&rt, "Poly::try_clone", AnyCall::Poly(Call::TryClone))
+}
+
+#[test]
+fn table_of_a_point(rt: HostRuntime) -> Result<(), Fail> {
+    tried(
         &rt,
         "Poly::new_from_point",
-        Poly::new_from_point(rt.alloc(), &point, element(5)),
-    )?;
-    if let Some(table) = table {
-        let weights = [10, 2013265906, 2013265901, 30];
-        assert!(rt; table.as_slice() == weights.map(element).as_slice());
-    }
-    Ok(())
+        AnyCall::Poly(Call::NewFromPoint),
+    )
 }
 
 #[test]
-fn new_packed_from_point(rt: HostRuntime) -> Result<(), Fail> {
-    let point = [element(2), element(3), element(5)];
-    let table = outcome(
+fn packed_table_of_a_point(rt: HostRuntime) -> Result<(), Fail> {
+    tried(
         &rt,
         "Poly::new_packed_from_point",
-        Poly::new_packed_from_point::<Element, Element>(rt.alloc(), &point, element(1)),
-    )?;
-    if let Some(table) = table {
-        assert_eq!(rt; table.num_evals(), 2);
-    }
-    Ok(())
+        AnyCall::Poly(Call::NewPackedFromPoint),
+    )
 }
 
 #[test]
-fn fix_prefix_var(rt: HostRuntime) -> Result<(), Fail> {
-    let Ok(poly) = poly(rt.alloc()) else {
-        return Ok(())
-    };
-    let folded = outcome(
+fn prefix_folded(rt: HostRuntime) -> Result<(), Fail> {
+    tried(
         &rt,
         "Poly::fix_prefix_var",
-        poly.fix_prefix_var(rt.alloc(), element(2)),
-    )?;
-    assert!(rt; is_poly(poly.as_slice()));
-    if let Some(folded) = folded {
-        assert!(rt; folded.as_slice() == [9, 10, 11, 12].map(element).as_slice());
-    }
-    Ok(())
+        AnyCall::Poly(Call::FixPrefixVar),
+    )
 }
 
 #[test]
-fn fix_prefix_var_to_packed(rt: HostRuntime) -> Result<(), Fail> {
-    let Ok(poly) = poly(rt.alloc()) else {
-        return Ok(())
-    };
-    let folded = outcome(
+fn prefix_folded_to_packed(rt: HostRuntime) -> Result<(), Fail> {
+    tried(
         &rt,
         "Poly::fix_prefix_var_to_packed",
-        poly.fix_prefix_var_to_packed(rt.alloc(), element(2)),
-    )?;
-    assert!(rt; is_poly(poly.as_slice()));
-    if let Some(folded) = folded {
-        assert_eq!(rt; folded.num_evals(), 1);
-    }
-    Ok(())
+        AnyCall::Poly(Call::FixPrefixVarToPacked),
+    )
 }
 
 #[test]
-fn fix_suffix_var(rt: HostRuntime) -> Result<(), Fail> {
-    let Ok(poly) = poly(rt.alloc()) else {
-        return Ok(())
-    };
-    let folded = outcome(
+fn suffix_folded(rt: HostRuntime) -> Result<(), Fail> {
+    tried(
         &rt,
         "PolyView::fix_suffix_var",
-        poly.as_view().fix_suffix_var(rt.alloc(), element(2)),
-    )?;
-    assert!(rt; is_poly(poly.as_slice()));
-    if let Some(folded) = folded {
-        assert!(rt; folded.as_slice() == [3, 5, 7, 9].map(element).as_slice());
-    }
-    Ok(())
+        AnyCall::Poly(Call::FixSuffixVar),
+    )
 }
 
 #[test]
-fn fix_suffix_var_mut_split(rt: HostRuntime) -> Result<(), Fail> {
-    let Ok(mut poly) = poly(rt.alloc()) else {
-        return Ok(())
-    };
-    let folded = outcome(
+fn suffix_folded_in_place(rt: HostRuntime) -> Result<(), Fail> {
+    tried(
         &rt,
         "Poly::fix_suffix_var_mut_split",
-        poly.fix_suffix_var_mut_split(rt.alloc(), element(2)),
-    )?;
-    if folded.is_some() {
-        assert!(rt; poly.as_slice() == [3, 5, 7, 9].map(element).as_slice());
-    } else {
-        assert!(rt; is_poly(poly.as_slice()));
-    }
-    Ok(())
-}
-
-#[test]
-fn pack(rt: HostRuntime) -> Result<(), Fail> {
-    let Ok(poly) = poly(rt.alloc()) else {
-        return Ok(())
-    };
-    let packed = outcome(&rt, "Poly::pack", poly.pack::<Element, Element>(rt.alloc()))?;
-    assert!(rt; is_poly(poly.as_slice()));
-    if let Some(packed) = packed {
-        assert_eq!(rt; packed.num_evals(), 2);
-    }
-    Ok(())
-}
-
-#[test]
-fn unpack(rt: HostRuntime) -> Result<(), Fail> {
-    let Ok(poly) = poly(rt.alloc()) else {
-        return Ok(())
-    };
-    let Ok(packed) = poly.pack::<Element, Element>(rt.alloc()) else {
-        return Ok(())
-    };
-    let unpacked = outcome(
-        &rt,
-        "Poly::unpack",
-        packed.unpack::<Element, Element>(rt.alloc()),
-    )?;
-    if let Some(unpacked) = unpacked {
-        assert!(rt; is_poly(unpacked.as_slice()));
-    }
-    Ok(())
-}
-
-/// A refused unpacking hands the packed table back.
-#[test]
-fn unpack_packed(rt: HostRuntime) -> Result<(), Fail> {
-    let Ok(poly) = poly(rt.alloc()) else {
-        return Ok(())
-    };
-    let Ok(packed) = poly.pack::<Element, Element>(rt.alloc()) else {
-        return Ok(())
-    };
-    let table: PolyMaybePacked<Element, Element> = PolyMaybePacked::Packed(packed);
-    let (unpacked, name) = match table.unpack(rt.alloc()) {
-        Ok(unpacked) => (unpacked.into_evals(), "served"),
-        Err((PolyMaybePacked::Packed(packed), _)) => {
-            let Ok(evals) = packed.unpack::<Element, Element>(rt.alloc()) else {
-                return Ok(())
-            };
-            (evals.into_evals(), "refused")
-        }
-        Err((PolyMaybePacked::Scalar(evals), _)) => (evals.into_evals(), "refused"),
-    };
-    println!(rt; "{name} PolyMaybePacked::unpack")?;
-    assert!(rt; is_poly(unpacked.as_slice()));
-    Ok(())
+        AnyCall::Poly(Call::FixSuffixVarMutSplit),
+    )
 }

@@ -1,22 +1,71 @@
 //! Split tables and the calls through them.
-ghost use Rattle.std.specs.Prelude.{◌≡◌, length, IfOk};
+ghost use Rattle.std.specs.Prelude.{◌≡◌, ◌*◌, length, IfOk};
 ghost use Rattle.multilinear_util.specs.Split.{split_entries};
+ghost use Rattle.multilinear_util.specs.Views.{entries};
 
-use crate::outcome::{Element, element, is_poly, outcome, point, poly};
-use mlu_lanes::Lanes;
+use crate::given::{is_poly, packed, point, poly};
+use crate::outcome::{Outcome, judge};
+use crate::residues::{Call as AnyCall, tried};
 use mlu_point::point::Point;
-use mlu_ring::{Additive, ExtensionField, Field, PackedValue, PrimeCharacteristicRing};
-use multilinear_util::poly::Poly;
+use mlu_ring::{ExtensionField, Field, PackedFieldExtension, PrimeCharacteristicRing};
+use mlu_test_support::numbers::{are, element, elements};
+use multilinear_util::poly::{Poly, PolyView};
 use multilinear_util::split_eq::SplitEq;
 use std::alloc::{AllocError, Global};
 use std::test::Fail;
 
-type Split = SplitEq<Element, Element>;
+#[derive(Clone, Copy)]
+pub enum Call {
+    NewUnpacked,
+    NewPacked,
+    AccumulateIntoPacked,
+    EvalPacked,
+    Beside(PolyCall),
+}
 
-/// The weights of the point (2, 3, 5).
-const WEIGHTS: [u32; 8] = [
-    2013265913, 10, 12, 2013265906, 16, 2013265901, 2013265897, 30,
-];
+/// A call of a table that stands beside the polynomial with the values 1, 2, .., 8.
+#[derive(Clone, Copy)]
+pub enum PolyCall {
+    TryClone,
+    Materialize,
+    CompressPrefix,
+    CompressSuffix,
+}
+
+/// What becomes of the call. Fails where its inputs are refused.
+pub fn made<F: Field, EF: ExtensionField<F>>(
+    alloc: Global,
+    call: Call,
+) -> Result<Outcome, AllocError>
+    requires { F.Packing.WIDTH ≡ 4 }
+{
+    let point = point::<EF>(alloc)?;
+    match call {
+        Call::NewUnpacked => Ok(judge(new_unpacked::<F, EF>(alloc, &point), true)),
+        Call::NewPacked => Ok(judge(new_packed::<F, EF>(alloc, &point), true)),
+        Call::AccumulateIntoPacked => accumulate_into_packed::<F, EF>(alloc, &point),
+        Call::EvalPacked => eval_packed::<F, EF>(alloc, &point),
+        Call::Beside(call) => beside_a_poly::<F, EF>(alloc, call, &point),
+    }
+}
+
+fn new_unpacked<F: Field, EF: ExtensionField<F>>(
+    alloc: Global,
+    point: &Point<EF>,
+) -> Result<bool, AllocError>
+    requires { length point.now ≡ 3 }
+{
+    Ok(SplitEq::<F, EF>::new_unpacked(alloc, point, EF::ONE)?.num_variables() == 3)
+}
+
+fn new_packed<F: Field, EF: ExtensionField<F>>(
+    alloc: Global,
+    point: &Point<EF>,
+) -> Result<bool, AllocError>
+    requires { length point.now ≡ 3 }
+{
+    Ok(SplitEq::<F, EF>::new_packed(alloc, point, EF::ONE)?.num_variables() == 3)
+}
 
 /// The table of a point of three coordinates, with scalars in both halves.
 fn split<F: Field, EF: ExtensionField<F>>(
@@ -29,223 +78,180 @@ fn split<F: Field, EF: ExtensionField<F>>(
     SplitEq::new_unpacked(alloc, point, EF::ONE)
 }
 
-/// Whether the table has these entries, which are added to `zeros`.
-fn has_entries<F: Field, EF: ExtensionField<F>>(
-    split: &SplitEq<F, EF>,
-    zeros: &mut [EF],
-    entries: &[EF],
-) -> bool
+/// Whether the table has the weights of the point (2, 3, 5), which are added to `zeros`.
+fn has_weights<F: Field, EF: ExtensionField<F>>(split: &SplitEq<F, EF>, zeros: &mut [EF]) -> bool
     requires { length zeros.old ≡ length (split_entries EF.ring split.now) }
 {
     split.accumulate_into(zeros, None);
-    *zeros == *entries
-}
-
-#[test]
-fn new_unpacked(rt: HostRuntime) -> Result<(), Fail> {
-    let Ok(point) = point(rt.alloc()) else {
-        return Ok(())
-    };
-    let made = outcome(
-        &rt,
-        "SplitEq::new_unpacked",
-        Split::new_unpacked(rt.alloc(), &point, Element::ONE),
-    )?;
-    if let Some(made) = made {
-        assert_eq!(rt; made.num_variables(), 3);
-    }
-    Ok(())
-}
-
-#[test]
-fn new_packed(rt: HostRuntime) -> Result<(), Fail> {
-    let Ok(point) = point(rt.alloc()) else {
-        return Ok(())
-    };
-    let made = outcome(
-        &rt,
-        "SplitEq::new_packed",
-        Split::new_packed(rt.alloc(), &point, Element::ONE),
-    )?;
-    if let Some(made) = made {
-        assert_eq!(rt; made.num_variables(), 3);
-    }
-    Ok(())
-}
-
-#[test]
-fn try_clone(rt: HostRuntime) -> Result<(), Fail> {
-    let Ok(point) = point(rt.alloc()) else {
-        return Ok(())
-    };
-    let Ok(split) = split::<Element, Element>(rt.alloc(), &point) else {
-        return Ok(())
-    };
-    let copy = outcome(&rt, "SplitEq::try_clone", split.try_clone(rt.alloc()))?;
-    assert!(rt; has_entries(&split, &mut [Element::ZERO; 8], &WEIGHTS.map(element)));
-    if let Some(copy) = copy {
-        assert_eq!(rt; copy.num_variables(), 3);
-    }
-    Ok(())
-}
-
-#[test]
-fn materialize(rt: HostRuntime) -> Result<(), Fail> {
-    let Ok(point) = point(rt.alloc()) else {
-        return Ok(())
-    };
-    let Ok(split) = split::<Element, Element>(rt.alloc(), &point) else {
-        return Ok(())
-    };
-    let table = outcome(&rt, "SplitEq::materialize", split.materialize(rt.alloc()))?;
-    assert!(rt; has_entries(&split, &mut [Element::ZERO; 8], &WEIGHTS.map(element)));
-    if let Some(table) = table {
-        assert!(rt; table.as_slice() == WEIGHTS.map(element).as_slice());
-    }
-    Ok(())
+    are(zeros, &[-8, 10, 12, -15, 16, -20, -24, 30])
 }
 
 /// A refused accumulation leaves its output as it was.
+fn accumulate_into_packed<F: Field, EF: ExtensionField<F>>(
+    alloc: Global,
+    point: &Point<EF>,
+) -> Result<Outcome, AllocError>
+    requires lanes { F.Packing.WIDTH ≡ 4 }
+    requires point { length point.now ≡ 3 }
+{
+    let split = split::<F, EF>(alloc, point)?;
+    let mut out: Vec<EF::ExtensionPacking> = elements(alloc, &[1, 1])?;
+    let done = split.accumulate_into_packed(alloc, out.as_mut_slice(), None);
+    let wanted = element(if done.is_ok() { 31 } else { 1 });
+    let last = EF::ExtensionPacking::to_ext_iter(out.as_slice()).last();
+    let right = last == Some(wanted);
+    Ok(match done {
+        Ok(()) => judge(Ok(true), right),
+        Err(refused) => judge(Err(refused), right),
+    })
+}
+
+fn value_of_lanes<F: Field, EF: ExtensionField<F>>(
+    alloc: Global,
+    split: &SplitEq<F, EF>,
+    packed: &Poly<EF::ExtensionPacking>,
+) -> Result<bool, AllocError>
+    requires { length packed.now * F.Packing.WIDTH ≡ length (split_entries EF.ring split.now) }
+{
+    Ok(split.eval_packed(alloc, packed.as_view())? == element(20))
+}
+
+fn eval_packed<F: Field, EF: ExtensionField<F>>(
+    alloc: Global,
+    point: &Point<EF>,
+) -> Result<Outcome, AllocError>
+    requires lanes { F.Packing.WIDTH ≡ 4 }
+    requires point { length point.now ≡ 3 }
+{
+    let packed = packed::<F, EF>(alloc)?;
+    let mut zeros = EF::zero_vec(alloc, 8)?;
+    let split = split::<F, EF>(alloc, point)?;
+    let answered = value_of_lanes::<F, EF>(alloc, &split, &packed);
+    Ok(judge(answered, has_weights(&split, zeros.as_mut_slice())))
+}
+
+/// What becomes of the call, beside the polynomial with the values 1, 2, .., 8.
+fn beside_a_poly<F: Field, EF: ExtensionField<F>>(
+    alloc: Global,
+    call: PolyCall,
+    point: &Point<EF>,
+) -> Result<Outcome, AllocError>
+    requires { length point.now ≡ 3 }
+{
+    let poly = poly::<F>(alloc)?;
+    let mut zeros = EF::zero_vec(alloc, 8)?;
+    let split = split::<F, EF>(alloc, point)?;
+    let answered = match call {
+        PolyCall::TryClone => try_clone(alloc, &split),
+        PolyCall::Materialize => materialize(alloc, &split),
+        PolyCall::CompressPrefix => compress_prefix(alloc, &split, poly.as_view()),
+        PolyCall::CompressSuffix => compress_suffix(alloc, &split, poly.as_view()),
+    };
+    let kept = has_weights(&split, zeros.as_mut_slice()) && is_poly(poly.as_slice());
+    Ok(judge(answered, kept))
+}
+
+fn try_clone<F: Field, EF: ExtensionField<F>>(
+    alloc: Global,
+    split: &SplitEq<F, EF>,
+) -> Result<bool, AllocError> {
+    Ok(split.try_clone(alloc)?.num_variables() == 3)
+}
+
+fn materialize<F: Field, EF: ExtensionField<F>>(
+    alloc: Global,
+    split: &SplitEq<F, EF>,
+) -> Result<bool, AllocError>
+    requires { length (split_entries EF.ring split.now) ≡ 8 }
+{
+    let table = split.materialize(alloc)?;
+    Ok(are(table.as_slice(), &[-8, 10, 12, -15, 16, -20, -24, 30]))
+}
+
+fn compress_prefix<F: Field, EF: ExtensionField<F>>(
+    alloc: Global,
+    split: &SplitEq<F, EF>,
+    poly: PolyView<'_, F>,
+) -> Result<bool, AllocError>
+    requires { length (split_entries EF.ring split.now) ≡ length (entries poly) }
+{
+    Ok(are(split.compress_prefix(alloc, poly)?.as_slice(), &[20]))
+}
+
+fn compress_suffix<F: Field, EF: ExtensionField<F>>(
+    alloc: Global,
+    split: &SplitEq<F, EF>,
+    poly: PolyView<'_, F>,
+) -> Result<bool, AllocError>
+    requires { length (split_entries EF.ring split.now) ≡ length (entries poly) }
+{
+    Ok(are(split.compress_suffix(alloc, poly)?.as_slice(), &[20]))
+}
+
 #[test]
-fn accumulate_into_packed(rt: HostRuntime) -> Result<(), Fail> {
-    let Ok(point) = point(rt.alloc()) else {
-        return Ok(())
-    };
-    let Ok(split) = split::<Element, Element>(rt.alloc(), &point) else {
-        return Ok(())
-    };
-    let mut out = [Lanes::<Element, 4>::ONE; 2];
-    let added = outcome(
+fn split_table(rt: HostRuntime) -> Result<(), Fail> {
+    tried(
+        &rt,
+        "SplitEq::new_unpacked",
+        AnyCall::Split(Call::NewUnpacked),
+    )
+}
+
+#[test]
+fn packed_split_table(rt: HostRuntime) -> Result<(), Fail> {
+    tried(&rt, "SplitEq::new_packed", AnyCall::Split(Call::NewPacked))
+}
+
+#[test]
+fn copied_split(rt: HostRuntime) -> Result<(), Fail> {
+    tried(
+        &rt,
+        "SplitEq::try_clone",
+        AnyCall::Split(Call::Beside(PolyCall::TryClone)),
+    )
+}
+
+#[test]
+fn whole_table(rt: HostRuntime) -> Result<(), Fail> {
+    tried(
+        &rt,
+        "SplitEq::materialize",
+        AnyCall::Split(Call::Beside(PolyCall::Materialize)),
+    )
+}
+
+#[test]
+fn accumulated_lanes(rt: HostRuntime) -> Result<(), Fail> {
+    tried(
         &rt,
         "SplitEq::accumulate_into_packed",
-        split.accumulate_into_packed(rt.alloc(), &mut out, None),
-    )?;
-    let last = out[1].lane(3).as_canonical_u32();
-    assert_eq!(rt; last, if added.is_some() { 31 } else { 1 });
-    Ok(())
+        AnyCall::Split(Call::AccumulateIntoPacked),
+    )
 }
 
 #[test]
-fn eval_packed(rt: HostRuntime) -> Result<(), Fail> {
-    let Ok(point) = point(rt.alloc()) else {
-        return Ok(())
-    };
-    let Ok(split) = split::<Element, Element>(rt.alloc(), &point) else {
-        return Ok(())
-    };
-    let lanes = [[1, 2, 3, 4], [5, 6, 7, 8]].map(|row| Lanes::from_array(row.map(element)));
-    let Ok(evals) = Vec::from_slice(rt.alloc(), &lanes) else {
-        return Ok(())
-    };
-    if !evals.len().is_power_of_two() {
-        return Ok(());
-    }
-    let poly = Poly::new(evals);
-    let value = outcome(
+fn value_of_packed_entries(rt: HostRuntime) -> Result<(), Fail> {
+    tried(
         &rt,
         "SplitEq::eval_packed",
-        split.eval_packed(rt.alloc(), poly.as_view()),
-    )?;
-    assert!(rt; has_entries(&split, &mut [Element::ZERO; 8], &WEIGHTS.map(element)));
-    if let Some(value) = value {
-        assert_eq!(rt; value, element(20));
-    }
-    Ok(())
+        AnyCall::Split(Call::EvalPacked),
+    )
 }
 
 #[test]
-fn compress_prefix(rt: HostRuntime) -> Result<(), Fail> {
-    let (Ok(point), Ok(poly)) = (point(rt.alloc()), poly(rt.alloc())) else {
-        return Ok(())
-    };
-    let Ok(split) = split::<Element, Element>(rt.alloc(), &point) else {
-        return Ok(())
-    };
-    let left = outcome(
+fn prefix_compressed(rt: HostRuntime) -> Result<(), Fail> {
+    tried(
         &rt,
         "SplitEq::compress_prefix",
-        split.compress_prefix(rt.alloc(), poly.as_view()),
-    )?;
-    assert!(rt; is_poly(poly.as_slice()));
-    if let Some(left) = left {
-        assert_eq!(rt; left.as_constant(), Some(element(20)));
-    }
-    Ok(())
+        AnyCall::Split(Call::Beside(PolyCall::CompressPrefix)),
+    )
 }
 
 #[test]
-fn compress_suffix(rt: HostRuntime) -> Result<(), Fail> {
-    let (Ok(point), Ok(poly)) = (point(rt.alloc()), poly(rt.alloc())) else {
-        return Ok(())
-    };
-    let Ok(split) = split::<Element, Element>(rt.alloc(), &point) else {
-        return Ok(())
-    };
-    let left = outcome(
+fn suffix_compressed(rt: HostRuntime) -> Result<(), Fail> {
+    tried(
         &rt,
         "SplitEq::compress_suffix",
-        split.compress_suffix(rt.alloc(), poly.as_view()),
-    )?;
-    assert!(rt; is_poly(poly.as_slice()));
-    if let Some(left) = left {
-        assert_eq!(rt; left.as_constant(), Some(element(20)));
-    }
-    Ok(())
-}
-
-/// The point of one coordinate, 2.
-fn two(alloc: Global) -> Result<Point<Element>, AllocError>
-    ensures { IfOk result (λ point. length point ≡ 1) }
-{
-    Ok(Point::new(Vec::from_slice(alloc, &[element(2)])?))
-}
-
-#[test]
-fn compress_prefix_to_packed(rt: HostRuntime) -> Result<(), Fail> {
-    let (Ok(point), Ok(poly)) = (two(rt.alloc()), poly(rt.alloc())) else {
-        return Ok(())
-    };
-    let left = outcome(
-        &rt,
-        "Poly::compress_prefix_to_packed",
-        poly.compress_prefix_to_packed(rt.alloc(), &point, Element::ONE),
-    )?;
-    assert!(rt; is_poly(poly.as_slice()));
-    if let Some(left) = left {
-        let lanes = Lanes::from_array([9, 10, 11, 12].map(element));
-        assert!(rt; left.as_slice() == [lanes].as_slice());
-    }
-    Ok(())
-}
-
-#[test]
-fn compress_prefix_at_a_point(rt: HostRuntime) -> Result<(), Fail> {
-    let (Ok(point), Ok(poly)) = (two(rt.alloc()), poly(rt.alloc())) else {
-        return Ok(())
-    };
-    let left = outcome(
-        &rt,
-        "Poly::compress_prefix",
-        poly.compress_prefix(rt.alloc(), &point, Element::ONE),
-    )?;
-    if let Some(left) = left {
-        assert!(rt; left.as_slice() == [9, 10, 11, 12].map(element).as_slice());
-    }
-    Ok(())
-}
-
-#[test]
-fn compress_suffix_at_a_point(rt: HostRuntime) -> Result<(), Fail> {
-    let (Ok(point), Ok(poly)) = (two(rt.alloc()), poly(rt.alloc())) else {
-        return Ok(())
-    };
-    let left = outcome(
-        &rt,
-        "Poly::compress_suffix",
-        poly.compress_suffix(rt.alloc(), &point, Element::ONE),
-    )?;
-    if let Some(left) = left {
-        assert!(rt; left.as_slice() == [3, 5, 7, 9].map(element).as_slice());
-    }
-    Ok(())
+        AnyCall::Split(Call::Beside(PolyCall::CompressSuffix)),
+    )
 }

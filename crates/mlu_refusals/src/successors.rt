@@ -1,85 +1,132 @@
 //! Weights that meet the next row.
+ghost use Rattle.std.specs.Prelude.{◌≡◌, length, IfOk};
+ghost use Rattle.multilinear_util.specs.Split.{split_entries};
+ghost use Rattle.multilinear_util.specs.Views.{entries};
 
-use crate::outcome::{Element, element, is_poly, outcome, point, poly};
+use crate::given::{is_poly, point, poly, short_point};
+use crate::outcome::{Outcome, judge};
+use crate::residues::{Call as AnyCall, tried};
 use mlu_point::point::Point;
-use mlu_ring::Additive;
-use multilinear_util::poly::Poly;
+use mlu_ring::{ExtensionField, Field, PrimeCharacteristicRing};
+use mlu_test_support::numbers::{are, element};
+use multilinear_util::poly::{Poly, PolyView};
 use multilinear_util::split_eq::SplitEq;
+use std::alloc::{AllocError, Global};
 use std::test::Fail;
 
-type Split = SplitEq<Element, Element>;
+#[derive(Clone, Copy)]
+pub enum Call {
+    NewNextFromPoint,
+    EvalNextBase,
+    CompressPrefixShifted,
+    CompressSuffixShifted,
+}
+
+/// What becomes of the call. Fails where its inputs are refused.
+pub fn made<F: Field, EF: ExtensionField<F>>(
+    alloc: Global,
+    call: Call,
+) -> Result<Outcome, AllocError> {
+    let poly = poly::<F>(alloc)?;
+    let answered = match call {
+        Call::NewNextFromPoint => next_from_point(alloc, poly.as_slice()),
+        Call::EvalNextBase => eval_next_base::<F, EF>(alloc, &poly, &point(alloc)?),
+        Call::CompressPrefixShifted => {
+            compress_prefix_shifted::<F, EF>(alloc, &split(alloc)?, poly.as_view())
+        }
+        Call::CompressSuffixShifted => {
+            compress_suffix_shifted::<F, EF>(alloc, &split(alloc)?, poly.as_view())
+        }
+    };
+    Ok(judge(answered, is_poly(poly.as_slice())))
+}
+
+/// The table of the point (2), with scalars in both halves.
+fn split<F: Field, EF: ExtensionField<F>>(alloc: Global) -> Result<SplitEq<F, EF>, AllocError>
+    ensures { IfOk result (λ split. length (split_entries EF.ring split) ≡ 2) }
+{
+    let point = short_point(alloc)?;
+    SplitEq::new_unpacked(alloc, &point, EF::ONE)
+}
+
+/// At the point (2, 3).
+fn next_from_point<R: PrimeCharacteristicRing>(
+    alloc: Global,
+    numbers: &[R],
+) -> Result<bool, AllocError>
+    requires { length numbers.now ≡ 8 }
+{
+    let rows = Poly::new_next_from_point(alloc, &numbers[1..3])?;
+    Ok(are(rows.as_slice(), &[0, 2, -3, 2]))
+}
+
+fn eval_next_base<F: Field, EF: ExtensionField<F>>(
+    alloc: Global,
+    poly: &Poly<F>,
+    point: &Point<EF>,
+) -> Result<bool, AllocError>
+    requires poly { length poly.now ≡ 8 }
+    requires point { length point.now ≡ 3 }
+{
+    Ok(poly.eval_next_base(alloc, point)? == element(-9))
+}
+
+fn compress_prefix_shifted<F: Field, EF: ExtensionField<F>>(
+    alloc: Global,
+    split: &SplitEq<F, EF>,
+    poly: PolyView<'_, F>,
+) -> Result<bool, AllocError>
+    requires split { length (split_entries EF.ring split.now) ≡ 2 }
+    requires poly { length (entries poly) ≡ 8 }
+{
+    let left = split.compress_prefix_shifted(alloc, poly)?;
+    Ok(are(left.as_slice(), &[-5, -6, -7, -8]))
+}
+
+fn compress_suffix_shifted<F: Field, EF: ExtensionField<F>>(
+    alloc: Global,
+    split: &SplitEq<F, EF>,
+    poly: PolyView<'_, F>,
+) -> Result<bool, AllocError>
+    requires split { length (split_entries EF.ring split.now) ≡ 2 }
+    requires poly { length (entries poly) ≡ 8 }
+{
+    let left = split.compress_suffix_shifted(alloc, poly)?;
+    Ok(are(left.as_slice(), &[-2, -4, -6, -8]))
+}
 
 #[test]
 fn new_next_from_point(rt: HostRuntime) -> Result<(), Fail> {
-    let point = [element(2), element(3)];
-    let rows = outcome(
+    tried(
         &rt,
         "Poly::new_next_from_point",
-        Poly::new_next_from_point(rt.alloc(), &point),
-    )?;
-    if let Some(rows) = rows {
-        assert!(rt; rows.as_slice() == [0, 2, 2013265918, 2].map(element).as_slice());
-    }
-    Ok(())
+        AnyCall::Successor(Call::NewNextFromPoint),
+    )
 }
 
 #[test]
-fn eval_next_base(rt: HostRuntime) -> Result<(), Fail> {
-    let (Ok(point), Ok(poly)) = (point(rt.alloc()), poly(rt.alloc())) else {
-        return Ok(())
-    };
-    let value = outcome(
+fn eval_next_base_of_a_poly(rt: HostRuntime) -> Result<(), Fail> {
+    tried(
         &rt,
         "Poly::eval_next_base",
-        poly.eval_next_base(rt.alloc(), &point),
-    )?;
-    assert!(rt; is_poly(poly.as_slice()));
-    if let Some(value) = value {
-        assert_eq!(rt; value, element(2013265912));
-    }
-    Ok(())
+        AnyCall::Successor(Call::EvalNextBase),
+    )
 }
 
 #[test]
-fn compress_prefix_shifted(rt: HostRuntime) -> Result<(), Fail> {
-    let (Ok(coordinate), Ok(poly)) = (Vec::from_slice(rt.alloc(), &[element(2)]), poly(rt.alloc()))
-    else {
-        return Ok(())
-    };
-    let Ok(split) = Split::new_unpacked(rt.alloc(), &Point::new(coordinate), Element::ONE) else {
-        return Ok(())
-    };
-    let left = outcome(
+fn prefix_compressed_shifted(rt: HostRuntime) -> Result<(), Fail> {
+    tried(
         &rt,
         "SplitEq::compress_prefix_shifted",
-        split.compress_prefix_shifted(rt.alloc(), poly.as_view()),
-    )?;
-    assert!(rt; is_poly(poly.as_slice()));
-    if let Some(left) = left {
-        let values = [2013265916, 2013265915, 2013265914, 2013265913];
-        assert!(rt; left.as_slice() == values.map(element).as_slice());
-    }
-    Ok(())
+        AnyCall::Successor(Call::CompressPrefixShifted),
+    )
 }
 
 #[test]
-fn compress_suffix_shifted(rt: HostRuntime) -> Result<(), Fail> {
-    let (Ok(coordinate), Ok(poly)) = (Vec::from_slice(rt.alloc(), &[element(2)]), poly(rt.alloc()))
-    else {
-        return Ok(())
-    };
-    let Ok(split) = Split::new_unpacked(rt.alloc(), &Point::new(coordinate), Element::ONE) else {
-        return Ok(())
-    };
-    let left = outcome(
+fn suffix_compressed_shifted(rt: HostRuntime) -> Result<(), Fail> {
+    tried(
         &rt,
         "SplitEq::compress_suffix_shifted",
-        split.compress_suffix_shifted(rt.alloc(), poly.as_view()),
-    )?;
-    assert!(rt; is_poly(poly.as_slice()));
-    if let Some(left) = left {
-        let values = [2013265919, 2013265917, 2013265915, 2013265913];
-        assert!(rt; left.as_slice() == values.map(element).as_slice());
-    }
-    Ok(())
+        AnyCall::Successor(Call::CompressSuffixShifted),
+    )
 }
