@@ -8,23 +8,22 @@
 //! Stands on mlu_lanes for the elements, and on multilinear_util for points and polynomials.
 #![tactic(auto)]
 
-ghost use Rattle.std.specs.Prelude.{OnOk};
-ghost use Rattle.std.specs.Io.KnownBytes.{Appends};
+ghost use Rattle.std.specs.Prelude.{◌≡◌, Err, OnErr, IfOk, map, string_bytes};
+ghost use Rattle.mlu.specs.Commands.{AnswersWords};
 
 mod command;
 mod element;
+mod emit;
 mod fault;
 mod operands;
 mod routes;
 mod words;
 
+use crate::emit::emit;
 use crate::fault::Fault;
-use std::io::Write;
+use std::alloc::Global;
 use std::process::ExitCode;
 use std::{env, io};
-
-/// The status where a write failed.
-const WRITE_FAILED: u8 = 4;
 
 /// The words after the program's name.
 fn arguments(rt: &HostRuntime) -> io::Result<Vec<String>> {
@@ -33,30 +32,15 @@ fn arguments(rt: &HostRuntime) -> io::Result<Vec<String>> {
 }
 
 /// The answer to the words, or want of memory where they can't be had.
-fn answer(rt: &HostRuntime) -> Result<Vec<u8>, Fault> {
-    let words = arguments(rt).map_err(|_| Fault::Memory)?;
-    command::answer(rt.alloc(), &words)
-}
-
-/// Writes the bytes, and sees that they are not held back.
-fn put<W: Write>(writer: &mut W, bytes: &[u8]) -> io::Result<()>
-    ensures { OnOk result (Appends (W.contents writer.old) (W.contents writer.new) bytes.now) }
+fn answer(alloc: Global, words: io::Result<Vec<String>>) -> Result<Vec<u8>, Fault>
+    ensures words { IfOk words (λ words. AnswersWords (map string_bytes words.items) result) }
+    ensures none { OnErr words (result ≡ Err Fault.Memory) }
 {
-    writer.write_all(bytes)?;
-    writer.flush()
+    let words = words.map_err(|_| Fault::Memory)?;
+    command::answer(alloc, &words)
 }
 
 fn main(rt: HostRuntime) -> ExitCode {
-    let (written, status) = match answer(&rt) {
-        Ok(line) => (put(&mut rt.stdout(), &line), 0),
-        Err(fault) => (
-            put(&mut rt.stderr(), fault.text().as_bytes()),
-            fault.status(),
-        ),
-    };
-    ExitCode::from(if written.is_ok() {
-        status
-    } else {
-        WRITE_FAILED
-    })
+    let answer = answer(rt.alloc(), arguments(&rt));
+    ExitCode::from(emit(answer, &mut rt.stdout(), &mut rt.stderr()))
 }
