@@ -1,6 +1,6 @@
 -- Sums, weights and columns under a map that keeps sums and products, as that to one lane.
 use Rattle.std.proofs.Common.{◌≡◌, ℕ, zero, suc, ◌+◌, ◌*◌, ◌/◌, ◌<◌, Bool, true, false, List, [], ◌∷◌, map, length, get_or, refl, sym, ap, ◌∙◌, nat_eq}
-use Rattle.std.specs.Prelude.{if◌then◌else◌, replicate}
+use Rattle.std.specs.Prelude.{if◌then◌else◌}
 use Rattle.std.specs.List.{range_with_len}
 use Rattle.std.specs.Simd.Lanes.{zip2}
 use Rattle.std.proofs.lemmas.List.{length-map, get_or-replicate}

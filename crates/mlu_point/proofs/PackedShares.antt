@@ -1,5 +1,5 @@
 -- Batches by packed shares, which have the last variables as their lanes.
-use Rattle.std.proofs.Common.{◌≡◌, ℕ, zero, suc, ◌+◌, ◌-◌, ◌*◌, ◌/◌, ◌%◌, ◌^◌, ◌<◌, List, ◌++◌, map, length, get_or, refl, sym, subst, ap, ◌∙◌, arith}
+use Rattle.std.proofs.Common.{◌≡◌, ℕ, ◌+◌, ◌*◌, ◌/◌, ◌%◌, ◌^◌, ◌<◌, List, ◌++◌, map, length, get_or, sym, subst, ap, ◌∙◌, arith}
 use Rattle.std.specs.Prelude.{replicate}
 use Rattle.std.proofs.Math.Nat.{div-lt_iff_lt-mul, mod-lt, mul-div_cancel}
 use Rattle.std.proofs.lemmas.Nat.{div-add-mod', pow-add, pow_pos}
@@ -11,7 +11,6 @@ use Rattle.mlu_ring.specs.Lanes.{IsLaneByLane, logical}
 use Rattle.mlu_ring.specs.Sums.{sum_below}
 use Rattle.mlu_ring.specs.Tables.{weight, weights}
 use Rattle.mlu_ring.specs.Matrices.{column, batch}
-use Rattle.mlu_ring.proofs.Rings.{product_left_comm}
 use Rattle.mlu_ring.proofs.SumsBelow.{sum_below-same}
 use Rattle.mlu_ring.proofs.Joined.{weight-joined, length-weights, get_or-weights}
 use Rattle.mlu_ring.proofs.Logical.{length-logical, get_or-logical}
