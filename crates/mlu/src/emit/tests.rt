@@ -11,16 +11,18 @@ use std::test::Fail;
 #[derive(Drop)]
 struct Slow {
     left: usize,
-    held: Vec<u8>,
-    flushed: Vec<u8>,
+    bytes: [u8; 16],
+    taken: usize,
+    flushed: usize,
 }
 
 impl Slow {
-    fn new(alloc: Global, left: usize) -> Slow {
+    fn new(left: usize) -> Slow {
         Slow {
             left,
-            held: Vec::new(alloc),
-            flushed: Vec::new(alloc),
+            bytes: [0; 16],
+            taken: 0,
+            flushed: 0,
         }
     }
 
@@ -28,66 +30,79 @@ impl Slow {
         self.left = self.left.checked_sub(1).ok_or(ErrorKind::Other)?;
         Ok(())
     }
+
+    /// The bytes that were flushed.
+    fn flushed(&self) -> &[u8] {
+        self.bytes.get(..self.flushed).unwrap_or(&[])
+    }
 }
 
 impl Write for Slow {
     fn write(&mut self, buf: &[u8]) -> io::Result<usize> {
         self.step()?;
-        match buf {
-            [first, ..] => {
-                self.held.push(*first)?;
+        match (buf, self.bytes.get_mut(self.taken)) {
+            ([first, ..], Some(place)) => {
+                *place = *first;
+                self.taken += 1;
                 Ok(1)
             }
-            [] => Ok(0),
+            _ => Ok(0),
         }
     }
 
     fn flush(&mut self) -> io::Result<()> {
         self.step()?;
-        self.flushed.extend_from_slice(&self.held)?;
-        self.held.clear();
+        self.flushed = self.taken;
         Ok(())
     }
 }
 
-/// The answer with this line.
-fn line(alloc: Global) -> Result<Result<Vec<u8>, Fault>, AllocError> {
-    Ok(Ok(Vec::from_slice(alloc, b"8\n")?))
+/// The answer of one line.
+fn line(alloc: Global) -> Result<Vec<u8>, AllocError> {
+    Vec::from_slice(alloc, b"8\n")
 }
 
 #[test]
-fn all_bytes_reach_one_writer(rt: HostRuntime) -> Result<(), Fail> {
-    let rows = [
-        (line(rt.alloc())?, 0, "8\n", ""),
-        (Err(Fault::Usage), 2, "", "mlu: usage\n"),
-        (Err(Fault::Number), 2, "", "mlu: number\n"),
-        (Err(Fault::Length), 2, "", "mlu: length\n"),
-        (Err(Fault::Arity), 2, "", "mlu: arity\n"),
-        (Err(Fault::Memory), 3, "", "mlu: memory\n"),
-    ];
-    for (answer, status, line, text) in rows {
-        let mut out = Slow::new(rt.alloc(), 99);
-        let mut err = Slow::new(rt.alloc(), 99);
-        assert_eq!(rt; emit(answer, &mut out, &mut err), status);
-        assert_eq!(rt; out.flushed.as_slice(), line.as_bytes());
-        assert_eq!(rt; err.flushed.as_slice(), text.as_bytes());
+fn the_line_reaches_one_writer(rt: HostRuntime) {
+    if let Ok(line) = line(rt.alloc()) {
+        let (mut out, mut err) = (Slow::new(99), Slow::new(99));
+        assert_eq!(rt; emit(Ok(line), &mut out, &mut err), 0);
+        assert_eq!(rt; out.flushed(), b"8\n".as_slice());
+        assert_eq!(rt; err.taken, 0);
     }
-    Ok(())
+}
+
+#[test]
+fn the_text_reaches_the_other(rt: HostRuntime) {
+    let rows = [
+        (Fault::Usage, 2, "mlu: usage\n"),
+        (Fault::Number, 2, "mlu: number\n"),
+        (Fault::Length, 2, "mlu: length\n"),
+        (Fault::Arity, 2, "mlu: arity\n"),
+        (Fault::Memory, 3, "mlu: memory\n"),
+    ];
+    for (fault, status, text) in rows {
+        let (mut out, mut err) = (Slow::new(99), Slow::new(99));
+        assert_eq!(rt; emit(Err(fault), &mut out, &mut err), status);
+        assert_eq!(rt; err.flushed(), text.as_bytes());
+        assert_eq!(rt; out.taken, 0);
+    }
 }
 
 #[test]
 fn a_write_or_the_flush_fails(rt: HostRuntime) -> Result<(), Fail> {
     for left in 0..3 {
-        let mut out = Slow::new(rt.alloc(), left);
-        let mut err = Slow::new(rt.alloc(), 99);
-        assert_eq!(rt; emit(line(rt.alloc())?, &mut out, &mut err), 4);
-        assert!(rt; err.held.is_empty() && err.flushed.is_empty());
+        let Ok(line) = line(rt.alloc()) else {
+            return Ok(());
+        };
+        let (mut out, mut err) = (Slow::new(left), Slow::new(99));
+        assert_eq!(rt; emit(Ok(line), &mut out, &mut err), 4);
+        assert_eq!(rt; err.taken, 0);
     }
     for left in 0..12 {
-        let mut out = Slow::new(rt.alloc(), 99);
-        let mut err = Slow::new(rt.alloc(), left);
+        let (mut out, mut err) = (Slow::new(99), Slow::new(left));
         assert_eq!(rt; emit(Err(Fault::Usage), &mut out, &mut err), 4);
-        assert!(rt; out.held.is_empty() && out.flushed.is_empty());
+        assert_eq!(rt; out.taken, 0);
     }
     Ok(())
 }
