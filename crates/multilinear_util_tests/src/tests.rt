@@ -1,4 +1,5 @@
-//! Rows over any rings, worked and drawn, and one test a row, at the rings that it is tried at.
+//! Rows over any rings, worked and drawn, one test a row, at the rings that it is tried at; and what
+//! `{:?}` prints.
 ghost use Rattle.std.specs.Prelude.{◌≡◌, length, IfOk};
 
 mod compressions;
@@ -12,8 +13,9 @@ mod storages;
 mod successors;
 mod sums;
 mod tables;
+mod texts;
 
-use mlu_ring::{Additive, PrimeCharacteristicRing};
+use mlu_ring::Additive;
 use mlu_test_support::numbers::elements;
 use multilinear_util::point::Point;
 use multilinear_util::poly::Poly;
@@ -41,18 +43,4 @@ fn table<R: Additive>(alloc: Global, numbers: &[i32]) -> Result<Poly<R>, AllocEr
     ensures { IfOk result (λ poly. length poly ≡ length numbers.now) }
 {
     poly(elements::<R>(alloc, numbers)?)
-}
-
-/// Two elements, in order.
-fn pair<R: PrimeCharacteristicRing>(
-    alloc: Global,
-    first: R,
-    second: R,
-) -> Result<Vec<R>, AllocError>
-    ensures { IfOk result (λ pair. length pair.items ≡ 2) }
-{
-    let mut pair = R::zero_vec(alloc, 2)?;
-    pair[0] = first;
-    pair[1] = second;
-    Ok(pair)
 }

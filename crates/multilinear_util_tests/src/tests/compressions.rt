@@ -1,11 +1,11 @@
 //! Worked rows of split tables and of the calls through them.
-ghost use Rattle.std.specs.Prelude.{◌<◌};
 
 use super::rings::{Row, quartics, residues, words};
-use super::{pair, point, poly, table};
+use super::{point, poly, table};
 use mlu_ring::{Additive, ExtensionField, Field, MapFrom, PackedValue, PrimeCharacteristicRing};
 use mlu_test_support::lanes::{lanes, packed};
-use mlu_test_support::numbers::{are, element, elements};
+use mlu_test_support::lists::pair;
+use mlu_test_support::numbers::{are, element, elements, with_coefficients};
 use multilinear_util::point::Point;
 use multilinear_util::poly::Poly;
 use multilinear_util::split_eq::SplitEq;
@@ -52,16 +52,28 @@ fn compresses_and_evaluates(rt: HostRuntime) -> Result<(), Fail> {
     Ok(())
 }
 
-/// Whether the table of the empty point is its scale.
+/// Whether both tables of the empty point are its scale.
 pub fn scales_a_constant<F: Field, EF: ExtensionField<F>>(
     alloc: Global,
 ) -> Result<bool, AllocError> {
-    let seven = table::<F>(alloc, &[7])?;
-    let split = SplitEq::<F, EF>::new_packed(alloc, &Point::empty(alloc), element(5))?;
-    if split.num_variables() != 0 {
+    let none = Point::empty(alloc);
+    let unpacked = SplitEq::<F, EF>::new_unpacked(alloc, &none, element(5))?;
+    let packed = SplitEq::<F, EF>::new_packed(alloc, &none, element(5))?;
+    Ok(sums_to(alloc, &unpacked, &[7], 35)? && sums_to(alloc, &packed, &[7], 35)?)
+}
+
+/// Whether the sum over the polynomial with these values is this one.
+fn sums_to<F: Field, EF: ExtensionField<F>>(
+    alloc: Global,
+    split: &SplitEq<F, EF>,
+    evals: &[i32],
+    sum: i32,
+) -> Result<bool, AllocError> {
+    let poly = table::<F>(alloc, evals)?;
+    if split.num_variables() != poly.num_variables() {
         return Ok(false);
     }
-    Ok(split.eval_base(seven.as_view()) == element(35))
+    Ok(split.eval_base(poly.as_view()) == element(sum))
 }
 
 #[test]
@@ -77,21 +89,15 @@ pub fn constructs<F: Field, EF: ExtensionField<F>>(alloc: Global) -> Result<bool
     let unpacked = SplitEq::<F, EF>::new_unpacked(alloc, &point, EF::ONE)?;
     let packed = SplitEq::<F, EF>::new_packed(alloc, &point, EF::ONE)?;
     let is_stored = !unpacked.eq1().is_packed()
+        && unpacked.eq0().num_variables() == 1
         && packed.eq1().is_packed()
         && packed.eq0().num_variables() == 1;
-    Ok(is_stored && is_twenty(alloc, &unpacked)? && is_twenty(alloc, &packed)?)
-}
-
-/// Whether the sum over 1, 2, .., 8 is 20.
-fn is_twenty<F: Field, EF: ExtensionField<F>>(
-    alloc: Global,
-    split: &SplitEq<F, EF>,
-) -> Result<bool, AllocError> {
-    let poly = table::<F>(alloc, &[1, 2, 3, 4, 5, 6, 7, 8])?;
-    if split.num_variables() != 3 {
-        return Ok(false);
-    }
-    Ok(split.eval_base(poly.as_view()) == element(20))
+    let counted = [1, 2, 3, 4, 5, 6, 7, 8];
+    Ok(
+        is_stored
+            && sums_to(alloc, &unpacked, &counted, 20)?
+            && sums_to(alloc, &packed, &counted, 20)?,
+    )
 }
 
 /// Whether the value of 1, 2, .., 8 in four lanes at the point (2, 3, 5) is 20.
@@ -173,19 +179,11 @@ pub fn evaluates_monomials<F: Field, EF: ExtensionField<F>>(
     if EF::DIMENSION < 4 {
         return Ok(false);
     }
-    let (square, cube) = (monomial::<F, EF>(2, 1), monomial::<F, EF>(3, 1));
+    let square = with_coefficients::<F, EF>(&[0, 0, 1, 0]);
+    let cube = with_coefficients::<F, EF>(&[0, 0, 0, 1]);
     let point = Point::new(pair(alloc, square, cube)?);
     let poly = table::<F>(alloc, &[0, 0, 0, 1])?;
-    Ok(poly.eval_base(alloc, &point)? == monomial::<F, EF>(1, 11))
-}
-
-/// The element whose coefficient `k` is the image of the number, and the others zero.
-fn monomial<F: Field, EF: ExtensionField<F>>(k: usize, number: i32) -> EF
-    requires { k < EF.DIMENSION }
-{
-    let mut power = EF::ZERO;
-    power.set_coefficient(k, element(number));
-    power
+    Ok(poly.eval_base(alloc, &point)? == with_coefficients::<F, EF>(&[0, 11, 0, 0]))
 }
 
 #[test]

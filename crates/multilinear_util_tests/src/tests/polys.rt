@@ -96,7 +96,9 @@ pub fn changes_size<R: PrimeCharacteristicRing>(alloc: Global) -> Result<bool, A
     let is_grown = are(poly.as_slice(), &[1, 2, 0, 0]);
     poly.as_mut_slice().reverse();
     poly.truncate_to_half();
-    Ok(is_grown && are(poly.as_slice(), &[0, 0]))
+    let mut counted = table::<R>(alloc, &[1, 2, 3, 4])?;
+    counted.truncate_to_half();
+    Ok(is_grown && are(poly.as_slice(), &[0, 0]) && are(counted.as_slice(), &[1, 2]))
 }
 
 #[test]

@@ -4,7 +4,7 @@ ghost use Rattle.std.specs.Prelude.{◌≡◌, ◌+◌, ◌*◌, ◌≤◌, ◌<
 ghost use Rattle.multilinear_util.specs.Split.{split_entries};
 
 use super::rings::{Row, quartics, residues};
-use super::sums::{Sums, are_next, base_sums, is_prefix, is_suffix};
+use super::sums::{Sums, are_compressions, are_next, base_sums, is_prefix};
 use mlu_ring::{Additive, ExtensionField, Field, PackedValue, PrimeCharacteristicRing, Sample};
 use mlu_test_support::plain;
 use multilinear_util::point::Point;
@@ -159,9 +159,12 @@ fn compresses_scalars<F: Field, EF: ExtensionField<F>>(
 {
     let prefix = split.compress_prefix(alloc, poly.as_view())?;
     let suffix = split.compress_suffix(alloc, poly.as_view())?;
-    Ok(
-        is_prefix(alloc, prefix.as_slice(), table, poly.as_slice())?
-            && is_suffix(alloc, suffix.as_slice(), table, poly.as_slice())?,
+    are_compressions(
+        alloc,
+        prefix.as_slice(),
+        suffix.as_slice(),
+        table,
+        poly.as_slice(),
     )
 }
 
@@ -177,9 +180,12 @@ fn compresses_moved<F: Field, EF: ExtensionField<F>>(
     let moved = plain::moved(alloc, table)?;
     let prefix = split.compress_prefix_shifted(alloc, poly.as_view())?;
     let suffix = split.compress_suffix_shifted(alloc, poly.as_view())?;
-    Ok(
-        is_prefix(alloc, prefix.as_slice(), &moved, poly.as_slice())?
-            && is_suffix(alloc, suffix.as_slice(), &moved, poly.as_slice())?,
+    are_compressions(
+        alloc,
+        prefix.as_slice(),
+        suffix.as_slice(),
+        &moved,
+        poly.as_slice(),
     )
 }
 
@@ -294,9 +300,12 @@ fn is_compressed<F: Field, EF: ExtensionField<F>>(
 {
     let prefix = poly.compress_prefix(alloc, point, scale)?;
     let suffix = poly.compress_suffix(alloc, point, scale)?;
-    Ok(
-        is_prefix(alloc, prefix.as_slice(), table, poly.as_slice())?
-            && is_suffix(alloc, suffix.as_slice(), table, poly.as_slice())?,
+    are_compressions(
+        alloc,
+        prefix.as_slice(),
+        suffix.as_slice(),
+        table,
+        poly.as_slice(),
     )
 }
 

@@ -64,13 +64,16 @@ pub fn is_prefix<F: Additive, A: Algebra<F>>(
     Ok(left == plain::compressed_prefix(alloc, weights, &images)?.as_slice())
 }
 
-/// Whether these are the sums of a base table at its last variables.
-pub fn is_suffix<F: Additive, A: Algebra<F>>(
+/// Whether these are the sums of a base table at its first variables, and at its last ones.
+pub fn are_compressions<F: Additive, A: Algebra<F>>(
     alloc: Global,
-    left: &[A],
+    prefix: &[A],
+    suffix: &[A],
     weights: &[A],
     entries: &[F],
 ) -> Result<bool, AllocError> {
     let images: Vec<A> = plain::images(alloc, entries)?;
-    Ok(left == plain::compressed_suffix(alloc, weights, &images)?.as_slice())
+    let first = plain::compressed_prefix(alloc, weights, &images)?;
+    let last = plain::compressed_suffix(alloc, weights, &images)?;
+    Ok(prefix == first.as_slice() && suffix == last.as_slice())
 }
