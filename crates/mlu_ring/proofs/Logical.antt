@@ -1,10 +1,10 @@
 -- The lanes of packed values, joined in order: blocks as long as the width.
-use Rattle.std.proofs.Common.{◌≡◌, ℕ, zero, suc, ◌+◌, ◌*◌, ◌<◌, ◌≤◌, List, [], ◌∷◌, ◌++◌, length, take, drop, set, get_or, refl, sym, ap, ◌∙◌, arith, length-append, append_assoc, zero-add, suc-add}
+use Rattle.std.proofs.Common.{◌≡◌, ℕ, zero, suc, ◌+◌, ◌*◌, ◌<◌, ◌≤◌, List, [], ◌∷◌, ◌++◌, length, take, drop, set, get_or, replicate, refl, sym, ap, ◌∙◌, arith, length-append, append_assoc, zero-add, suc-add}
 use Rattle.std.specs.Simd.Lanes.{zip2}
-use Rattle.std.proofs.Math.Nat.{mul-le-mul_right}
+use Rattle.std.proofs.Math.Nat.{mul-le-mul_right, add_comm, zero-mul, suc-mul}
 use Rattle.std.proofs.Math.Seq.{take-append-add, take-append_seam, drop-append-add, drop-append_seam, take-nil, drop-nil}
 use Rattle.std.proofs.lemmas.Grind.{flat_map-append}
-use Rattle.std.proofs.lemmas.List.{get_or_append_left, get_or-append-add, take_more, append-nil}
+use Rattle.std.proofs.lemmas.List.{get_or_append_left, get_or-append-add, take_more, append-nil, replicate-append-replicate}
 use Rattle.mlu_ring.specs.Lanes.{logical}
 
 -- n more places of two lists, zipped over the first
@@ -92,3 +92,13 @@ module _ {P V : Type 0} (lanes : P → List V) (n : ℕ) (long : (p : P) → len
       ∙ ap part is
       ∙ zip_more f xs ys m n room e
       ∙ ap (λ k. zip2 f (take k xs) (take k ys) ++ drop k xs) next
+
+module _ {P V : Type 0} (lanes : P → List V) (n : ℕ) where
+  -- the same in every lane
+  pub logical-replicate : (m : ℕ) (p : P) (v : V) → lanes p ≡ replicate n v → logical lanes (replicate m p) ≡ replicate (m * n) v
+  logical-replicate zero p v is = ap (λ k. replicate k v) (sym (zero-mul n))
+  logical-replicate (suc m) p v is =
+      ap (λ vs. vs ++ logical lanes (replicate m p)) is
+      ∙ ap (λ vs. replicate n v ++ vs) (logical-replicate m p v is)
+      ∙ replicate-append-replicate n (m * n) v
+      ∙ ap (λ k. replicate k v) (add_comm n (m * n) ∙ sym (suc-mul m n))

@@ -6,11 +6,11 @@ use Rattle.std.proofs.lemmas.List.{get_or-take, get_or-drop, length-take-le, ext
 use Rattle.mlu_ring.specs.Ring.{Ring, RingLaws}
 use Rattle.mlu_ring.specs.Sums.{sum_below}
 use Rattle.mlu_ring.specs.Tables.{pair}
-use Rattle.mlu_ring.specs.Successor.{successor, next, moved_up, shifted}
+use Rattle.mlu_ring.specs.Successor.{pushed, moved_up, shifted}
 use Rattle.mlu_ring.proofs.Rings.{product_zero, zero_product, product_one, sum_zero}
 use Rattle.mlu_ring.proofs.SumsBelow.{sum_below-same, sum_below-suc, sum_below-none}
 use Rattle.mlu_ring.proofs.Totals.{sum_below-more}
-use Rattle.mlu_ring.proofs.Successor.{successor-more, successor-last, sum_below-one, sum-next, length-next, get_or-next}
+use Rattle.mlu_ring.proofs.Successor.{IsStep, step-within, sum_below-one, sum-pushed, length-pushed, get_or-pushed}
 
 pub length-moved_up : {A : Type 0} (x : A) (w : List A) → 0 < length w → length (moved_up x w) ≡ length w
 length-moved_up x w some =
@@ -57,21 +57,20 @@ module _ {R : Type 0} (ring : Ring R) (laws : RingLaws ring) where
   pub pair-shifted : (w e : List R) → pair ring (shifted ring w) e ≡ pair ring (take (length w - 1) w) (drop 1 e)
   pair-shifted w e = shifted-later w e ∙ sym (taken-later w e)
 
-  -- the products with the successors' weights are those with the moved ones, and the last with the last
-  pub pair-next : (w e : List R) → 0 < length w → pair ring (next ring w) e ≡ pair ring (shifted ring w) e ⊕ (get_or w (length w - 1) 𝟘 ⊗ get_or e (length w - 1) 𝟘)
+  -- the products with the pushed weights are those with the moved ones, and that of the last weight where it goes
+  pub pair-pushed : (to : ℕ → ℕ) (w e : List R) (s : ℕ) → IsStep (length w) s to → pair ring (pushed ring to w) e ≡ pair ring (shifted ring w) e ⊕ (get_or w (length w - 1) 𝟘 ⊗ get_or e s 𝟘)
   unfolding pair
-  pair-next w e some =
+  pair-pushed to w e s step =
       let n = length w in
       let m = n - 1 in
-      let rows : n ≡ m + 1 = omega (arith, some) in
-      let term = λ (x : ℕ). get_or e (successor n x) 𝟘 ⊗ get_or w x 𝟘 in
+      let rows : n ≡ m + 1 = omega (arith, step.inside) in
+      let term = λ (x : ℕ). get_or e (to x) 𝟘 ⊗ get_or w x 𝟘 in
       let before : sum_below ring m term ≡ later w e =
-      sum_below-same ring m term (λ x. get_or w x 𝟘 ⊗ get_or e (x + 1) 𝟘) (λ x h. ap (λ k. get_or e k 𝟘 ⊗ get_or w x 𝟘) (successor-more n x h) ∙ laws.product_comm (get_or e (x + 1) 𝟘) (get_or w x 𝟘)) in
-      let last : term m ≡ get_or w m 𝟘 ⊗ get_or e m 𝟘 =
-      ap (λ k. get_or e k 𝟘 ⊗ get_or w m 𝟘) (successor-last n m some rows) ∙ laws.product_comm (get_or e m 𝟘) (get_or w m 𝟘) in
-      ap (λ k. sum_below ring k (λ y. get_or (next ring w) y 𝟘 ⊗ get_or e y 𝟘)) (length-next ring laws w)
-      ∙ sum_below-same ring n (λ y. get_or (next ring w) y 𝟘 ⊗ get_or e y 𝟘) (λ y. get_or e y 𝟘 ⊗ get_or (next ring w) y 𝟘) (λ y h. laws.product_comm (get_or (next ring w) y 𝟘) (get_or e y 𝟘))
-      ∙ sum-next ring laws w (λ y. get_or e y 𝟘)
+      sum_below-same ring m term (λ x. get_or w x 𝟘 ⊗ get_or e (x + 1) 𝟘) (λ x h. ap (λ k. get_or e k 𝟘 ⊗ get_or w x 𝟘) (step.more x h) ∙ laws.product_comm (get_or e (x + 1) 𝟘) (get_or w x 𝟘)) in
+      let last : term m ≡ get_or w m 𝟘 ⊗ get_or e s 𝟘 = ap (λ k. get_or e k 𝟘 ⊗ get_or w m 𝟘) step.last ∙ laws.product_comm (get_or e s 𝟘) (get_or w m 𝟘) in
+      ap (λ k. sum_below ring k (λ y. get_or (pushed ring to w) y 𝟘 ⊗ get_or e y 𝟘)) (length-pushed ring laws to w)
+      ∙ sum_below-same ring n (λ y. get_or (pushed ring to w) y 𝟘 ⊗ get_or e y 𝟘) (λ y. get_or e y 𝟘 ⊗ get_or (pushed ring to w) y 𝟘) (λ y h. laws.product_comm (get_or (pushed ring to w) y 𝟘) (get_or e y 𝟘))
+      ∙ sum-pushed ring laws to w (λ y. get_or e y 𝟘) (step-within n s to step)
       ∙ ap (λ k. sum_below ring k term) rows
       ∙ sum_below-more ring laws m term
       ∙ ap (λ t. t ⊕ term m) (before ∙ sym (shifted-later w e))
@@ -104,17 +103,16 @@ module _ {R : Type 0} (ring : Ring R) (laws : RingLaws ring) where
       ∙ product_one ring laws (get_or w k 𝟘)
       ∙ sym (get_or-take m w k 𝟘 within)
 
-  -- the entry of a row: that of the row before it, and at the last row its own too
-  next-entry : (w : List R) (y : ℕ) → y < length w → get_or (next ring w) y 𝟘 ≡ get_or (shifted ring w) y 𝟘 ⊕ cond (eqb (length w - 1) y) (get_or w (length w - 1) 𝟘) 𝟘
-  next-entry w y h =
-      let n = length w in
-      let m = n - 1 in
-      let rows : n ≡ m + 1 = omega (arith, h) in
-      let term = λ (x : ℕ). cond (eqb (successor n x) y) (get_or w x 𝟘) 𝟘 in
+  -- the entry of a row: that of the row before it, and the last one where it goes
+  pushed-entry : (to : ℕ → ℕ) (w : List R) (s y : ℕ) → IsStep (length w) s to → y < length w → get_or (pushed ring to w) y 𝟘 ≡ get_or (shifted ring w) y 𝟘 ⊕ cond (eqb s y) (get_or w (length w - 1) 𝟘) 𝟘
+  pushed-entry to w s y step h =
+      let m = length w - 1 in
+      let rows : length w ≡ m + 1 = omega (arith, h) in
+      let term = λ (x : ℕ). cond (eqb (to x) y) (get_or w x 𝟘) 𝟘 in
       let before : sum_below ring m term ≡ come w y =
-      sum_below-same ring m term (λ x. cond (eqb (x + 1) y) (get_or w x 𝟘) 𝟘) (λ x q. ap (λ k. cond (eqb k y) (get_or w x 𝟘) 𝟘) (successor-more n x q)) in
-      let last : term m ≡ cond (eqb m y) (get_or w m 𝟘) 𝟘 = ap (λ k. cond (eqb k y) (get_or w m 𝟘) 𝟘) (successor-last n m (omega (arith, h)) rows) in
-      get_or-next ring laws w y h
+      sum_below-same ring m term (λ x. cond (eqb (x + 1) y) (get_or w x 𝟘) 𝟘) (λ x q. ap (λ k. cond (eqb k y) (get_or w x 𝟘) 𝟘) (step.more x q)) in
+      let last : term m ≡ cond (eqb s y) (get_or w m 𝟘) 𝟘 = ap (λ k. cond (eqb k y) (get_or w m 𝟘) 𝟘) step.last in
+      get_or-pushed ring laws to w y h
       ∙ ap (λ k. sum_below ring k term) rows
       ∙ sum_below-more ring laws m term
       ∙ ap (λ t. t ⊕ term m) (before ∙ come-is w y h)
@@ -133,13 +131,13 @@ module _ {R : Type 0} (ring : Ring R) (laws : RingLaws ring) where
           ∙ sum_zero ring laws (get_or s y 𝟘)
           ∙ sym (get_or-set_other s m y (get_or s m 𝟘 ⊕ u) 𝟘 (λ e. other (sym e)))
 
-  -- the successors' table: the table moved up by one place, with its last weight added to the last
-  pub next-is : (w : List R) → 0 < length w → next ring w ≡ set (shifted ring w) (length w - 1) (get_or (shifted ring w) (length w - 1) 𝟘 ⊕ get_or w (length w - 1) 𝟘)
-  next-is w some =
+  -- the pushed table: the table moved up by one place, with its last weight added where it goes
+  pub pushed-is : (to : ℕ → ℕ) (w : List R) (s : ℕ) → IsStep (length w) s to → pushed ring to w ≡ set (shifted ring w) s (get_or (shifted ring w) s 𝟘 ⊕ get_or w (length w - 1) 𝟘)
+  pushed-is to w s step =
       let m = length w - 1 in
-      let s = shifted ring w in
-      let size : length s ≡ length w = length-moved_up 𝟘 w some in
-      let within : m < length s = omega (arith, size, some) in
-      let whole = set s m (get_or s m 𝟘 ⊕ get_or w m 𝟘) in
-      ext_get_or 𝟘 (next ring w) whole (length-next ring laws w ∙ sym (length-set s m (get_or s m 𝟘 ⊕ get_or w m 𝟘) ∙ size))
-      (λ y q. next-entry w y (omega (arith, q, length-next ring laws w)) ∙ set-entry s m y (get_or w m 𝟘) within)
+      let moved = shifted ring w in
+      let size : length moved ≡ length w = length-moved_up 𝟘 w (omega (arith, step.inside)) in
+      let within : s < length moved = omega (arith, size, step.inside) in
+      let whole = set moved s (get_or moved s 𝟘 ⊕ get_or w m 𝟘) in
+      ext_get_or 𝟘 (pushed ring to w) whole (length-pushed ring laws to w ∙ sym (length-set moved s (get_or moved s 𝟘 ⊕ get_or w m 𝟘) ∙ size))
+      (λ y q. pushed-entry to w s y step (omega (arith, q, length-pushed ring laws to w)) ∙ set-entry moved s y (get_or w m 𝟘) within)

@@ -2,7 +2,7 @@
 use Rattle.std.specs.Prelude.{◌≡◌, ◌<◌, ℕ, List, [], ◌∷◌, length, slice_index_or}
 use Rattle.std.proofs.Common.{zero, suc, refl, arith}
 use Rattle.mlu_ring.specs.Ring.{Ring, IsRingMap}
-use Rattle.mlu_ring.specs.Lanes.{IsLists}
+use Rattle.mlu_ring.specs.Lanes.{IsLists, IsLaneByLane}
 
 pub identity_is_ring_map : {R : Type 0} (ring : Ring R) → IsRingMap ring ring (λ x. x)
 identity_is_ring_map ring = record {
@@ -30,3 +30,14 @@ pub only_transposed : {P V : Type 0} (z : V) (d : P) (lanes : P → List V) (p :
     → slice_index_or (slice_index_or (lanes p) k z ∷ []) c z ≡ slice_index_or (lanes (slice_index_or (p ∷ []) c d)) k z
 only_transposed z d lanes p k zero h = refl
 only_transposed z d lanes p k (suc c) h = absurd (omega arith)
+
+-- an element is its one lane
+pub one_lane : {R : Type 0} (ring : Ring R) → IsLaneByLane 1 (λ x. x ∷ []) ring ring
+one_lane ring = record {
+  zero = refl;
+  one = refl;
+  sum = λ p q. refl;
+  minus = λ p q. refl;
+  negation = λ p. refl;
+  product = λ p q. refl;
+}

@@ -9,11 +9,15 @@ use Rattle.mlu_ring.specs.Sums.{sum_below}
 abbrev pub successor : ℕ → ℕ → ℕ
 successor n x = min (x + 1) (n - 1)
 
--- entry y is the sum of the entries of w at the indexes whose successor is y
-unfoldable pub next : {R : Type 0} → Ring R → List R → List R
-next ring w =
+-- entry y is the sum of the entries of w at the indexes that go to y
+unfoldable pub pushed : {R : Type 0} → Ring R → (ℕ → ℕ) → List R → List R
+pushed ring to w =
     let n = length w in
-    map (λ y. sum_below ring n (λ x. if successor n x == y then slice_index_or w x ring.zero else ring.zero)) (range_with_len 0 n)
+    map (λ y. sum_below ring n (λ x. if to x == y then slice_index_or w x ring.zero else ring.zero)) (range_with_len 0 n)
+
+-- entry y is the sum of the entries of w at the indexes whose successor is y
+abbrev pub next : {R : Type 0} → Ring R → List R → List R
+next ring w = pushed ring (successor (length w)) w
 
 -- the list moved up by one place: x in front, and all of w but the last
 abbrev pub moved_up : {A : Type 0} → A → List A → List A

@@ -41,6 +41,10 @@ value ring e p = sum_below ring (2 ^ length p) (λ x. ring.product (weight ring 
 abbrev pub IsAffineInEach : {R : Type 0} → Ring R → ℕ → (List R → R) → Type 0
 IsAffineInEach {R} ring n f = (p : List R) (i : ℕ) (c : R) → length p ≡ n → i < n → f (slice_set p i c) ≡ ring.sum (ring.product (ring.minus ring.one c) (f (slice_set p i ring.zero))) (ring.product c (f (slice_set p i ring.one)))
 
+-- at the vertex of each index x in n variables the function has entry x, or zero past the end
+abbrev pub HasAtVertices : {R : Type 0} → Ring R → ℕ → (List R → R) → List R → Type 0
+HasAtVertices ring n f e = (x : ℕ) → x < 2 ^ n → f (vertex ring n x) ≡ slice_index_or e x ring.zero
+
 -- the sum of the products of two lists, place by place
 unfoldable pub pair : {R : Type 0} → Ring R → List R → List R → R
 pair ring w e = sum_below ring (length w) (λ x. ring.product (slice_index_or w x ring.zero) (slice_index_or e x ring.zero))

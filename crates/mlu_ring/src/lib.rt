@@ -11,6 +11,7 @@
 #![tactic(auto)]
 
 mod additive;
+mod affine;
 mod algebra;
 mod conversion;
 mod ext_lanes;
@@ -27,6 +28,7 @@ mod sample;
 mod tally;
 
 pub use additive::Additive;
+pub use affine::AffineInEach;
 pub use algebra::{Algebra, SelfAlgebra};
 pub use conversion::{MapFrom, RingMapFrom};
 pub use ext_lanes::ExtLanes;
