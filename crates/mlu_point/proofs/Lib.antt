@@ -8,6 +8,7 @@ pub mod Suffixes
 pub mod Complements
 pub mod Equality
 pub mod Selection
+pub mod Rules
 pub mod Steps
 pub mod Expansion
 pub mod Transposes

@@ -1,12 +1,17 @@
 -- The parts of a step to the next row, from the last coordinate on.
-use Rattle.std.proofs.Common.{◌≡◌, ℕ, ◌+◌, ◌-◌, ◌<◌, ◌≤◌, List, [], ◌∷◌, length, get_or, drop, sym, ap, ◌∙◌, arith}
+use Rattle.std.proofs.Common.{◌≡◌, ℕ, ◌+◌, ◌-◌, ◌^◌, ◌<◌, ◌≤◌, List, [], ◌∷◌, length, get_or, drop, sym, ap, ◌∙◌, arith}
+use Rattle.std.proofs.lemmas.Nat.{pow_pos}
 use Rattle.mlu_ring.specs.Ring.{Ring, RingLaws}
 use Rattle.mlu_ring.specs.Tables.{weight, weights, value}
-use Rattle.mlu_ring.specs.Successor.{next}
 use Rattle.mlu_ring.proofs.SumsBelow.{sum_below-zero, product_below-zero, product_below-suc}
-use Rattle.mlu_ring.proofs.Successor.{done-first, last-first, last-last, value-next}
+use Rattle.mlu_ring.proofs.Successor.{done-first, last-first, last-last, value-pushed}
+use Rattle.mlu_ring.proofs.Joined.{length-weights}
+use Rattle.mlu_point.specs.declared.point.rule.Successor.{Successor}
+use Rattle.mlu_point.specs.declared.point.rule.Successor.TheVariants.{RepeatLast, Wrap}
+use Rattle.mlu_point.specs.Rules.{successor_by, next_by, after_last}
 use Rattle.mlu_point.specs.Steps.{carry_of, done_of, last_of}
 use Rattle.mlu_point.proofs.Complements.{leaves-product, settles-product, agrees-products}
+use Rattle.mlu_point.proofs.Rules.{rule-step}
 use Rattle.mlu_point.proofs.Suffixes.{suffix-none, suffix-more, suffix-whole, length-suffix}
 
 -- the last k entries
@@ -84,9 +89,20 @@ module _ {R : Type 0} (ring : Ring R) (laws : RingLaws ring) where
       let within : length r ≤ k = omega (arith, h, same) in
       ap (λ l. f l (tail r k)) (suffix-whole p k h) ∙ ap (λ l. f p l) (suffix-whole r k within)
 
+  -- what the last row gives: it stays, or every bit of it goes to 0
+  abbrev pub end_of : Successor → List R → List R → R
+  end_of RepeatLast p r = last_of ring p r
+  end_of Wrap p r = carry_of ring p r
+
+  last-row : (rule : Successor) (p r : List R) → length p ≡ length r → weight ring p (2 ^ length p - 1) ⊗ weight ring r (after_last rule (length (weights ring p))) ≡ end_of rule p r
+  last-row RepeatLast p r same = ap (λ n. weight ring p (2 ^ length p - 1) ⊗ weight ring r (n - 1)) (length-weights ring laws p ∙ ap (λ n. 2 ^ n) same) ∙ last-last ring laws p r same
+  last-row Wrap p r same = last-first ring laws p r same
+
   -- the steps that end below the top, with that of the last row
-  pub steps-value : (p r : List R) (done stay : R) → length p ≡ length r → done ≡ done_of ring p r → stay ≡ last_of ring p r → done ⊕ stay ≡ value ring (next ring (weights ring p)) r
-  steps-value p r done stay same at_done at_stay =
-      ap (λ t. t ⊕ stay) at_done
-      ∙ ap (λ t. done_of ring p r ⊕ t) (at_stay ∙ sym (last-last ring laws p r same))
-      ∙ sym (value-next ring laws p r same)
+  pub steps-value : (rule : Successor) (p r : List R) (done end : R) → length p ≡ length r → done ≡ done_of ring p r → end ≡ end_of rule p r → done ⊕ end ≡ value ring (next_by rule ring (weights ring p)) r
+  steps-value rule p r done end same at_done at_end =
+      let n = length (weights ring p) in
+      let some : 0 < length (weights ring p) = omega (arith, length-weights ring laws p, pow_pos (length p)) in
+      ap (λ t. t ⊕ end) at_done
+      ∙ ap (λ t. done_of ring p r ⊕ t) (at_end ∙ sym (last-row rule p r same))
+      ∙ sym (value-pushed ring laws (successor_by rule n) p r (after_last rule n) same (rule-step rule n some))

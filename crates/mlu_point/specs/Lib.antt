@@ -5,5 +5,6 @@ pub mod Vertices
 pub mod Factors
 pub mod Powers
 pub mod Steps
+pub mod Rules
 pub mod Batches
 pub mod Splats

@@ -6,10 +6,12 @@ mod evaluation;
 mod metered;
 mod order;
 mod owned;
+mod rule;
 mod table;
 mod view;
 
 pub use order::BitOrder;
 pub use owned::Point;
+pub use rule::Successor;
 pub use table::fill_equality_table;
 pub use view::PointView;

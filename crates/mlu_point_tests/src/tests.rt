@@ -31,9 +31,11 @@ enum FieldRow {
     MadePoints,
     SideBySide,
     Steps,
+    StepsByRule,
     DrawnPoints,
     DrawnTables(usize),
     DrawnSteps(usize),
+    DrawnStepsByRule(usize),
 }
 
 /// A row over a field and an extension of it. Those that are drawn have so many variables, and
@@ -66,9 +68,11 @@ fn holds_over<R: Field + Sample>(alloc: Global, row: FieldRow) -> Result<bool, A
         FieldRow::MadePoints => evaluations::made_points::<R>(alloc),
         FieldRow::SideBySide => evaluations::side_by_side::<R>(alloc),
         FieldRow::Steps => evaluations::steps::<R>(alloc),
+        FieldRow::StepsByRule => evaluations::steps_by_rule::<R>(alloc),
         FieldRow::DrawnPoints => points::draws::<R>(alloc),
         FieldRow::DrawnTables(n) => tables::draws::<R>(alloc, n),
         FieldRow::DrawnSteps(n) => evaluations::drawn_steps::<R>(alloc, n),
+        FieldRow::DrawnStepsByRule(n) => evaluations::drawn_steps_by_rule::<R>(alloc, n),
     }
 }
 
@@ -281,6 +285,7 @@ fn values_at_drawn_points(rt: HostRuntime) -> Result<(), Fail> {
 #[test]
 fn steps(rt: HostRuntime) -> Result<(), Fail> {
     assert!(rt; everywhere(rt.alloc(), Row::Field(FieldRow::Steps))?);
+    assert!(rt; everywhere(rt.alloc(), Row::Field(FieldRow::StepsByRule))?);
     Ok(())
 }
 
@@ -288,6 +293,7 @@ fn steps(rt: HostRuntime) -> Result<(), Fail> {
 fn steps_at_drawn_points(rt: HostRuntime) -> Result<(), Fail> {
     for n in 0..6 {
         assert!(rt; everywhere(rt.alloc(), Row::Field(FieldRow::DrawnSteps(n)))?);
+        assert!(rt; everywhere(rt.alloc(), Row::Field(FieldRow::DrawnStepsByRule(n)))?);
     }
     Ok(())
 }

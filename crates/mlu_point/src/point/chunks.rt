@@ -70,7 +70,7 @@ fn fill_chunks<F: Lanewise, M: Meter<F>>(
 }
 
 /// Writes the scale times each weight, in the order, a chunk for each weight of the high coordinates.
-/// Those weights are the only memory, and none is taken where there is no such coordinate.
+/// Those weights are the only memory: it does not fail where there is no such coordinate.
 pub(super) fn fill_in_chunks<F: Lanewise, M: Meter<F>>(
     alloc: Global,
     out: &mut [F],

@@ -1,13 +1,15 @@
 //! Points made from a number or an element, and values at a point that need no table.
-ghost use Rattle.std.specs.Prelude.{◌≡◌, ◌-◌, ◌^◌, ◌<◌, ◌++◌, ℕ, [], length, map, flat_map, slice_index_or, EachIndex, IfOk, if◌then◌else◌};
+ghost use Rattle.std.specs.Prelude.{◌≡◌, ◌-◌, ◌^◌, ◌<◌, ◌++◌, ℕ, [], length, map, flat_map, slice_index_or, EachIndex, IfOk, IsOk, if◌then◌else◌};
 ghost use Rattle.mlu_ring.specs.Tables.{weights, value, vertex, powers};
 ghost use Rattle.mlu_ring.specs.Matrices.{dimension, transposed};
 ghost use Rattle.mlu_point.specs.Powers.{powers_below};
 ghost use Rattle.mlu_ring.specs.Successor.{next};
 ghost use Rattle.mlu_point.specs.Factors.{eq_factor, power_factor};
+ghost use Rattle.mlu_point.specs.Rules.{next_by};
 ghost use Rattle.mlu_point.specs.Steps.{carry_of, done_of, last_of};
 
 use super::owned::Point;
+use super::rule::Successor;
 use super::table::bit_at;
 use mlu_ring::{ExtensionField, Field, RowMajorMatrix};
 use std::alloc::{AllocError, Global};
@@ -17,10 +19,11 @@ impl<F: Field> Point<F> {
     /// are zero. Asks that `value < 2^n` where `n < 64`.
     ///
     /// # Errors
-    /// Where memory is refused.
+    /// Where memory is refused. The vertex of no variables does not fail.
     pub fn hypercube(alloc: Global, value: usize, n: usize) -> Result<Self, AllocError>
         requires { n < 64 → value < 2 ^ n }
-        ensures { IfOk result (λ point. point ≡ vertex F.ring n value) }
+        ensures point { IfOk result (λ point. point ≡ vertex F.ring n value) }
+        ensures none { n ≡ 0 → IsOk result }
     {
         let mut coords = Vec::with_capacity(alloc, n)?;
         for i in 0..n {
@@ -99,11 +102,25 @@ impl<F: Field> Point<F> {
         (carry, done, last)
     }
 
+    /// What `row` weighs of the successors, by the rule, of the rows that `point` weighs. Asks for
+    /// equal lengths.
+    pub fn eval_next_by(rule: Successor, point: &[F], row: &[F]) -> F
+        requires { length point.now ≡ length row.now }
+        ensures { result ≡ value F.ring (next_by rule F.ring (weights F.ring point.now)) row.now }
+    {
+        let (carry, done, last) = Self::eval_next(point, row);
+        match rule {
+            Successor::RepeatLast => done + last,
+            Successor::Wrap => done + carry,
+        }
+    }
+
     /// The matrix whose row `j` is coordinate `j` of each point, or coordinate `k - 1 - j` of `k`
     /// where `rev_order`. Asks for one point or more, of equal lengths.
     ///
     /// # Errors
-    /// Where memory is refused, or the number of values does not fit `usize`.
+    /// Where memory is refused, or the number of values does not fit `usize`. Points of no coordinates
+    /// do not fail.
     pub fn transpose(
         alloc: Global,
         points: &[Self],
@@ -113,6 +130,7 @@ impl<F: Field> Point<F> {
         requires equal { EachIndex points.now (λ i. length (slice_index_or points.now i []) ≡ dimension points.now) }
         ensures values { IfOk result (λ matrix. matrix.values.items ≡ flat_map (λ row. row) (transposed F.ring points.now rev_order)) }
         ensures width { IfOk result (λ matrix. matrix.width ≡ length points.now) }
+        ensures none { dimension points.now ≡ 0 → IsOk result }
     {
         let k = points[0].num_variables();
         let size = k.checked_mul(points.len()).ok_or(AllocError)?;

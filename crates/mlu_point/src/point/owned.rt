@@ -9,6 +9,7 @@ ghost use Rattle.mlu_ring.specs.Tables.{weights, lsb};
 ghost use Rattle.mlu_point.specs.Orders.{weights_by};
 ghost use Rattle.mlu_point.specs.Vertices.{IsWeightAt};
 
+use super::coordinates::copied;
 use super::order::BitOrder;
 use super::view::PointView;
 use mlu_ring::{Field, Lanewise, Meter, Sample};
@@ -55,11 +56,12 @@ impl<F: Copy> Point<F> {
     /// An equal point.
     ///
     /// # Errors
-    /// Where memory is refused.
+    /// Where memory is refused. An empty point does not fail.
     pub fn try_clone(&self, alloc: Global) -> Result<Self, AllocError>
-        ensures { IfOk result (λ point. point ≡ self.now) }
+        ensures point { IfOk result (λ point. point ≡ self.now) }
+        ensures none { length self.now ≡ 0 → IsOk result }
     {
-        Ok(Point::new(Vec::from_slice(alloc, self.as_slice())?))
+        Ok(Point::new(copied(alloc, self.as_slice())?))
     }
 
     /// The number of coordinates.
@@ -98,9 +100,10 @@ impl<F: Copy> Point<F> {
     /// Appends the coordinates of `other`.
     ///
     /// # Errors
-    /// Where memory is refused; the point is as before then.
+    /// Where memory is refused; the point is as before then. None to append does not fail.
     pub fn extend(&mut self, other: PointView<'_, F>) -> Result<(), AllocError>
-        ensures { self.new ≡ (if is_ok result then self.old ++ coordinates other.entry else self.old) }
+        ensures point { self.new ≡ (if is_ok result then self.old ++ coordinates other.entry else self.old) }
+        ensures none { length (coordinates other.entry) ≡ 0 → IsOk result }
     {
         self.coords.extend_from_slice(other.into_slice())
     }
@@ -113,14 +116,16 @@ impl<F: Copy> Point<F> {
     ) -> Result<Self, AllocError>
         requires order { range.start ≤ range.end }
         requires end { range.end ≤ length self.now }
-        ensures { IfOk result (λ point. point ≡ slice_range self.now range.start range.end) }
+        ensures point { IfOk result (λ point. point ≡ slice_range self.now range.start range.end) }
+        ensures none { range.start ≡ range.end → IsOk result }
     {
         self.as_view().get_subpoint_over_range(alloc, range)
     }
 
     /// As [`PointView::reversed`].
     pub fn reversed(&self, alloc: Global) -> Result<Self, AllocError>
-        ensures { IfOk result (λ point. point ≡ reverse self.now) }
+        ensures point { IfOk result (λ point. point ≡ reverse self.now) }
+        ensures none { length self.now ≡ 0 → IsOk result }
     {
         self.as_view().reversed(alloc)
     }
@@ -130,6 +135,7 @@ impl<F: Copy> Point<F> {
         requires { pos ≤ length self.now }
         ensures first { IfOk result (λ halves. halves.0 ≡ take pos self.now) }
         ensures rest { IfOk result (λ halves. halves.1 ≡ drop pos self.now) }
+        ensures none { length self.now ≡ 0 → IsOk result }
     {
         self.as_view().split_at(alloc, pos)
     }
@@ -224,9 +230,10 @@ impl<F: Sample + Copy + Drop> Point<F> {
     /// promised.
     ///
     /// # Errors
-    /// Where memory is refused.
+    /// Where memory is refused. None to draw does not fail.
     pub fn rand<R: RngExt>(alloc: Global, rng: &mut R, n: usize) -> Result<Self, AllocError>
-        ensures { IfOk result (λ point. length point ≡ n) }
+        ensures size { IfOk result (λ point. length point ≡ n) }
+        ensures none { n ≡ 0 → IsOk result }
     {
         let mut coords = Vec::with_capacity(alloc, n)?;
         for _ in 0..n {

@@ -2,7 +2,7 @@
 ghost use Rattle.std.specs.Prelude.{◌≡◌, ⊤, [], ◌<◌, length, slice_index_or};
 
 use super::chunks::{equality_table, fill_in_chunks, weights_by_meter};
-use super::coordinates::{reversed, subrange};
+use super::coordinates::{copied, reversed, subrange};
 use super::metered::fill_by_meter;
 use super::order::BitOrder;
 use super::owned::Point;
@@ -41,7 +41,7 @@ impl<F> Default for PointView<'_, F> {
 }
 
 impl<'a, F: Copy> PointView<'a, F> {
-    ghost use Rattle.std.specs.Prelude.{◌≡◌, ◌≤◌, length, take, drop, reverse, slice_range, IfOk};
+    ghost use Rattle.std.specs.Prelude.{◌≡◌, ◌≤◌, length, take, drop, reverse, slice_range, IfOk, IsOk};
     ghost use Rattle.std.specs.Slice.Iter.{iter_rest, iter_steps};
     ghost use Rattle.std.specs.Iterator.Runs.{YieldsRefsInOrder};
     ghost use Rattle.mlu_point.specs.Views.{coordinates};
@@ -100,7 +100,7 @@ impl<'a, F: Copy> PointView<'a, F> {
     /// coordinates.
     ///
     /// # Errors
-    /// Where memory is refused.
+    /// Where memory is refused. An empty range does not fail.
     pub fn get_subpoint_over_range(
         &self,
         alloc: Global,
@@ -108,7 +108,8 @@ impl<'a, F: Copy> PointView<'a, F> {
     ) -> Result<Point<F>, AllocError>
         requires order { range.start ≤ range.end }
         requires end { range.end ≤ length (coordinates self.now) }
-        ensures { IfOk result (λ point. point ≡ slice_range (coordinates self.now) range.start range.end) }
+        ensures point { IfOk result (λ point. point ≡ slice_range (coordinates self.now) range.start range.end) }
+        ensures none { range.start ≡ range.end → IsOk result }
     {
         Ok(Point::new(subrange(alloc, self.coords, range)?))
     }
@@ -116,9 +117,10 @@ impl<'a, F: Copy> PointView<'a, F> {
     /// The point with the coordinates from last to first.
     ///
     /// # Errors
-    /// Where memory is refused.
+    /// Where memory is refused. An empty point does not fail.
     pub fn reversed(&self, alloc: Global) -> Result<Point<F>, AllocError>
-        ensures { IfOk result (λ point. point ≡ reverse (coordinates self.now)) }
+        ensures point { IfOk result (λ point. point ≡ reverse (coordinates self.now)) }
+        ensures none { length (coordinates self.now) ≡ 0 → IsOk result }
     {
         Ok(Point::new(reversed(alloc, self.coords)?))
     }
@@ -127,15 +129,16 @@ impl<'a, F: Copy> PointView<'a, F> {
     /// are `n` coordinates.
     ///
     /// # Errors
-    /// Where memory is refused.
+    /// Where memory is refused. An empty point does not fail.
     pub fn split_at(&self, alloc: Global, pos: usize) -> Result<(Point<F>, Point<F>), AllocError>
         requires { pos ≤ length (coordinates self.now) }
         ensures first { IfOk result (λ halves. halves.0 ≡ take pos (coordinates self.now)) }
         ensures rest { IfOk result (λ halves. halves.1 ≡ drop pos (coordinates self.now)) }
+        ensures none { length (coordinates self.now) ≡ 0 → IsOk result }
     {
         let (first, rest) = self.coords.split_at(pos);
-        let first = Vec::from_slice(alloc, first)?;
-        let rest = Vec::from_slice(alloc, rest)?;
+        let first = copied(alloc, first)?;
+        let rest = copied(alloc, rest)?;
         Ok((Point::new(first), Point::new(rest)))
     }
 }
@@ -171,7 +174,7 @@ impl<F: Lanewise> PointView<'_, F> {
     ///
     /// # Errors
     /// Where memory for the weights of the high coordinates is refused; nothing is written or
-    /// multiplied then. None is taken where `low_variables` is `n`.
+    /// multiplied then. Does not fail where `low_variables` is `n`.
     pub fn fill_equality_table_in_chunks<M: Meter<F>>(
         &self,
         alloc: Global,

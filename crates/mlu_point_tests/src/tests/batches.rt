@@ -1,5 +1,6 @@
 //! Batches of points, written and added.
-ghost use Rattle.std.specs.Prelude.{◌≡◌, ◌*◌, ◌<◌, ◌≤◌, ◌^◌, length};
+ghost use Rattle.std.specs.Prelude.{◌≡◌, ◌*◌, ◌/◌, ◌<◌, ◌≤◌, ◌^◌, length};
+ghost use Rattle.mlu_ring.specs.Matrices.{AreRows};
 
 use mlu_point::eq_batch::{
     eval_eq_base_batch, eval_eq_base_batch_in_chunks, eval_eq_batch, eval_eq_batch_in_chunks,
@@ -14,60 +15,84 @@ use rand_core::SeedableRng;
 use rand_pcg::Pcg32;
 use std::alloc::{AllocError, Global};
 
+/// Whether a batch of points with these rows of coordinates, as many as scalars, leaves `after` of
+/// `before`.
+fn leaves<F: Field, EF: ExtensionField<F>, const INITIALIZED: bool>(
+    alloc: Global,
+    rows: &[i32],
+    scalars: &[i32],
+    before: &[i32],
+    after: &[i32],
+) -> Result<bool, AllocError>
+    requires rows { AreRows (length rows.now) (length scalars.now) }
+    requires size { 0 < length scalars.now → length before.now ≡ 2 ^ (length rows.now / length scalars.now) }
+{
+    let rows: Vec<EF> = elements(alloc, rows)?;
+    let scalars: Vec<EF> = elements(alloc, scalars)?;
+    let mut out: Vec<EF> = elements(alloc, before)?;
+    let evals = RowMajorMatrixView::new(rows.as_slice(), scalars.len());
+    eval_eq_batch::<F, EF, INITIALIZED>(alloc, evals, out.as_mut_slice(), scalars.as_slice())?;
+    Ok(are(out.as_slice(), after))
+}
+
+/// As [`leaves`], where the coordinates are base elements.
+fn leaves_by_the_base<F: Field, EF: ExtensionField<F>, const INITIALIZED: bool>(
+    alloc: Global,
+    rows: &[i32],
+    scalars: &[i32],
+    before: &[i32],
+    after: &[i32],
+) -> Result<bool, AllocError>
+    requires rows { AreRows (length rows.now) (length scalars.now) }
+    requires size { 0 < length scalars.now → length before.now ≡ 2 ^ (length rows.now / length scalars.now) }
+{
+    let rows: Vec<F> = elements(alloc, rows)?;
+    let scalars: Vec<EF> = elements(alloc, scalars)?;
+    let mut out: Vec<EF> = elements(alloc, before)?;
+    let evals = RowMajorMatrixView::new(rows.as_slice(), scalars.len());
+    eval_eq_base_batch::<F, EF, INITIALIZED>(alloc, evals, out.as_mut_slice(), scalars.as_slice())?;
+    Ok(are(out.as_slice(), after))
+}
+
 /// Three vertices of two variables.
 pub fn rows<F: Field, EF: ExtensionField<F>>(alloc: Global) -> Result<bool, AllocError> {
-    let values: Vec<EF> = elements(alloc, &[1, 0, 1, 0, 1, 1])?;
-    let evals = RowMajorMatrixView::new(values.as_slice(), 3);
-    let scalars: Vec<EF> = elements(alloc, &[2, 3, 5])?;
-    let mut out: Vec<EF> = elements(alloc, &[9, 9, 9, 9])?;
-    eval_eq_batch::<F, EF, false>(alloc, evals, out.as_mut_slice(), scalars.as_slice())?;
-    let written = are(out.as_slice(), &[0, 3, 2, 5]);
-    let mut out: Vec<EF> = elements(alloc, &[1, 1, 1, 1])?;
-    eval_eq_batch::<F, EF, true>(alloc, evals, out.as_mut_slice(), scalars.as_slice())?;
-    Ok(written && are(out.as_slice(), &[1, 4, 3, 6]))
+    let (points, scalars) = ([1, 0, 1, 0, 1, 1], [2, 3, 5]);
+    Ok(
+        leaves::<F, EF, false>(alloc, &points, &scalars, &[9, 9, 9, 9], &[0, 3, 2, 5])?
+            && leaves::<F, EF, true>(alloc, &points, &scalars, &[1, 1, 1, 1], &[1, 4, 3, 6])?,
+    )
 }
 
 /// Two vertices of two variables, by base elements.
 pub fn rows_of_the_base<F: Field, EF: ExtensionField<F>>(
     alloc: Global,
 ) -> Result<bool, AllocError> {
-    let values: Vec<F> = elements(alloc, &[1, 0, 0, 1])?;
-    let evals = RowMajorMatrixView::new(values.as_slice(), 2);
-    let scalars: Vec<EF> = elements(alloc, &[2, 3])?;
-    let mut out: Vec<EF> = elements(alloc, &[9, 9, 9, 9])?;
-    eval_eq_base_batch::<F, EF, false>(alloc, evals, out.as_mut_slice(), scalars.as_slice())?;
-    let written = are(out.as_slice(), &[0, 3, 2, 0]);
-    eval_eq_base_batch::<F, EF, true>(alloc, evals, out.as_mut_slice(), scalars.as_slice())?;
-    Ok(written && are(out.as_slice(), &[0, 6, 4, 0]))
+    let (points, scalars, sums) = ([1, 0, 0, 1], [2, 3], [0, 3, 2, 0]);
+    Ok(
+        leaves_by_the_base::<F, EF, false>(alloc, &points, &scalars, &[9, 9, 9, 9], &sums)?
+            && leaves_by_the_base::<F, EF, true>(alloc, &points, &scalars, &sums, &[0, 6, 4, 0])?,
+    )
 }
 
 /// No points: what is added is nothing, and what is written is zeros, in any number of places.
 pub fn without_points<F: Field, EF: ExtensionField<F>>(alloc: Global) -> Result<bool, AllocError> {
-    let none: RowMajorMatrixView<'_, EF> = RowMajorMatrixView::new(&[], 0);
-    let base: RowMajorMatrixView<'_, F> = RowMajorMatrixView::new(&[], 0);
-    let mut out: Vec<EF> = elements(alloc, &[9, 9, 9])?;
-    eval_eq_batch::<F, EF, true>(alloc, none, out.as_mut_slice(), &[])?;
-    eval_eq_base_batch::<F, EF, true>(alloc, base, out.as_mut_slice(), &[])?;
-    let kept = are(out.as_slice(), &[9, 9, 9]);
-    eval_eq_batch::<F, EF, false>(alloc, none, out.as_mut_slice(), &[])?;
-    let cleared = are(out.as_slice(), &[0, 0, 0]);
-    let mut out: Vec<EF> = elements(alloc, &[9, 9, 9])?;
-    eval_eq_base_batch::<F, EF, false>(alloc, base, out.as_mut_slice(), &[])?;
-    Ok(kept && cleared && are(out.as_slice(), &[0, 0, 0]))
+    let nines = [9, 9, 9];
+    let kept = leaves::<F, EF, true>(alloc, &[], &[], &nines, &nines)?
+        && leaves_by_the_base::<F, EF, true>(alloc, &[], &[], &nines, &nines)?;
+    Ok(
+        kept && leaves::<F, EF, false>(alloc, &[], &[], &nines, &[0, 0, 0])?
+            && leaves_by_the_base::<F, EF, false>(alloc, &[], &[], &nines, &[0, 0, 0])?,
+    )
 }
 
 /// Two points without coordinates: the one place takes both scalars.
 pub fn without_coordinates<F: Field, EF: ExtensionField<F>>(
     alloc: Global,
 ) -> Result<bool, AllocError> {
-    let evals: RowMajorMatrixView<'_, EF> = RowMajorMatrixView::new(&[], 2);
-    let base: RowMajorMatrixView<'_, F> = RowMajorMatrixView::new(&[], 2);
-    let scalars: Vec<EF> = elements(alloc, &[2, 3])?;
-    let mut out: Vec<EF> = elements(alloc, &[9])?;
-    eval_eq_batch::<F, EF, false>(alloc, evals, out.as_mut_slice(), scalars.as_slice())?;
-    let written = are(out.as_slice(), &[5]);
-    eval_eq_base_batch::<F, EF, true>(alloc, base, out.as_mut_slice(), scalars.as_slice())?;
-    Ok(written && are(out.as_slice(), &[10]))
+    Ok(
+        leaves::<F, EF, false>(alloc, &[], &[2, 3], &[9], &[5])?
+            && leaves_by_the_base::<F, EF, true>(alloc, &[], &[2, 3], &[5], &[10])?,
+    )
 }
 
 /// The equality table of the point (2, 3, 5).
@@ -94,21 +119,22 @@ fn is_table_in_chunks<F: Field, EF: ExtensionField<F>>(
 {
     let point: Vec<EF> = elements(alloc, &[2, 3, 5])?;
     let base: Vec<F> = elements(alloc, &[2, 3, 5])?;
-    let evals = RowMajorMatrixView::new_col(point.as_slice());
-    let base = RowMajorMatrixView::new_col(base.as_slice());
+    let before: Vec<EF> = elements(alloc, &[9; 8])?;
+    let table: Vec<EF> = elements(alloc, &TABLE)?;
     let one = [EF::ONE];
-    let mut out: Vec<EF> = elements(alloc, &[9; 8])?;
-    eval_eq_batch_in_chunks::<F, EF, false>(alloc, evals, out.as_mut_slice(), &one, log_chunks)?;
-    let by_elements = are(out.as_slice(), &TABLE);
-    let mut out: Vec<EF> = elements(alloc, &[9; 8])?;
-    eval_eq_base_batch_in_chunks::<F, EF, false>(
-        alloc,
-        base,
-        out.as_mut_slice(),
-        &one,
-        log_chunks,
-    )?;
-    Ok(by_elements && are(out.as_slice(), &TABLE))
+    Ok(
+        agrees::<F, EF, false>(alloc, 3, log_chunks, &point, &one, &before, &table)?
+            && agrees_in_the_base::<F, EF, false>(
+                alloc, 3, log_chunks, &base, &one, &before, &table,
+            )?,
+    )
+}
+
+/// Column `j` of rows of so many values.
+fn column<T: Copy>(alloc: Global, rows: &[T], width: usize, j: usize) -> Result<Vec<T>, AllocError>
+    requires { 0 < width }
+{
+    rows.iter().skip(j).step_by(width).copied().collect(alloc)
 }
 
 /// The sum over the points, the columns of the rows, of scalar times weight of `x`.
@@ -119,13 +145,8 @@ fn plain_batch<R: PrimeCharacteristicRing>(
     x: usize,
 ) -> Result<R, AllocError> {
     let mut sum = R::ZERO;
-    for (column, scalar) in scalars.iter().enumerate() {
-        let point: Vec<R> = rows
-            .iter()
-            .skip(column)
-            .step_by(scalars.len())
-            .copied()
-            .collect(alloc)?;
+    for (j, scalar) in scalars.iter().enumerate() {
+        let point = column(alloc, rows, scalars.len(), j)?;
         sum = sum + *scalar * weight(point.as_slice(), x);
     }
     Ok(sum)

@@ -1,11 +1,11 @@
 //! Points made of numbers, and values at a point that need no table.
 ghost use Rattle.std.specs.Prelude.{◌≡◌, ◌<◌, ◌^◌, IfOk, length, vec_len};
 
-use mlu_point::point::Point;
+use mlu_point::point::{Point, Successor};
 use mlu_ring::{Additive, Algebra, ExtensionField, Field, PrimeCharacteristicRing, Sample};
 use mlu_test_support::draws::drawn;
 use mlu_test_support::numbers::{are, element, elements};
-use mlu_test_support::plain::{dot, images, last, table, value, weight};
+use mlu_test_support::plain::{dot, images, last, next, table, value, weight};
 use rand_core::SeedableRng;
 use rand_pcg::Pcg32;
 use std::alloc::{AllocError, Global};
@@ -88,6 +88,36 @@ pub fn drawn_steps<R: Field + Sample>(alloc: Global, n: usize) -> Result<bool, A
     let coordinates: Vec<R> = drawn(alloc, &mut rng, n + n)?;
     let (point, row) = coordinates.as_slice().split_at(n);
     Ok(Point::eval_next(point, row) == plain_steps(alloc, point, row)?)
+}
+
+/// The index after the last of four by each rule, and the steps at two coordinates, and at none.
+pub fn steps_by_rule<R: Field>(alloc: Global) -> Result<bool, AllocError> {
+    let point: Vec<R> = elements(alloc, &[2, 3])?;
+    let row: Vec<R> = elements(alloc, &[5, 7])?;
+    let repeated = Point::eval_next_by(Successor::RepeatLast, point.as_slice(), row.as_slice());
+    let wrapped = Point::eval_next_by(Successor::Wrap, point.as_slice(), row.as_slice());
+    let none = Point::<R>::eval_next_by(Successor::RepeatLast, &[], &[]);
+    let round = Point::<R>::eval_next_by(Successor::Wrap, &[], &[]);
+    let after = Successor::RepeatLast.after_last(4) == 3 && Successor::Wrap.after_last(4) == 0;
+    let steps = repeated == element(104) && wrapped == element(38);
+    Ok(after && steps && none == R::ONE && round == R::ONE)
+}
+
+/// The steps by each rule at drawn points: the value at the row of the weights that are moved.
+pub fn drawn_steps_by_rule<R: Field + Sample>(alloc: Global, n: usize) -> Result<bool, AllocError> {
+    if n >= 6 {
+        return Ok(false);
+    }
+    let mut rng = Pcg32::seed_from_u64(11);
+    let coordinates: Vec<R> = drawn(alloc, &mut rng, n + n)?;
+    let (point, row) = coordinates.as_slice().split_at(n);
+    let weights = table(alloc, point, R::ONE)?;
+    let repeated = next(alloc, &weights, weights.len() - 1)?;
+    let wrapped = next(alloc, &weights, 0)?;
+    Ok(
+        Point::eval_next_by(Successor::RepeatLast, point, row) == value(&repeated, row)
+            && Point::eval_next_by(Successor::Wrap, point, row) == value(&wrapped, row),
+    )
 }
 
 /// The value at the point of a table of base elements.

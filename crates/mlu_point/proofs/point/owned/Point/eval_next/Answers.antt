@@ -1,4 +1,5 @@
 use Rattle.std.proofs.Common.{◌∙◌, ap}
+use Rattle.mlu_point.specs.declared.point.rule.Successor.TheVariants.{RepeatLast}
 use Rattle.mlu_point.specs.Steps.{carry_of, done_of, last_of}
 use Rattle.mlu_point.proofs.Steps.{carry_of-none, done_of-none, last_of-none, carry_of-more, done_of-more, last_of-more, tails-all, steps-value}
 use Rattle.mlu_point.proofs.point.owned.Point.eval_next.Goals as goal
@@ -56,5 +57,5 @@ returns g c =
       carry = before.carry ∙ tails-all ring laws (carry_of ring) p r c.loop-k.k all c.requires;
       done = done;
       last = last;
-      whole = steps-value ring laws p r c.loop-k.done c.loop-k.last c.requires done last;
+      whole = steps-value ring laws RepeatLast p r c.loop-k.done c.loop-k.last c.requires done last;
     }

@@ -12,9 +12,9 @@ loop-i-preserved g c =
     made-more (λ i. if bit c.args.n i c.args.value == 1 then ring.one else ring.zero) c.loop-i.coords.items c.push.new.self.items c.loop-i.i c.from_bool.result
     c.loop-i.invariant (c.from_bool.ensures ∙ ap (λ b. if b == 1 then ring.one else ring.zero) c.bit_at-bit.ensures) c.in_ok-push.ensures.items
 
-pub returns : goal.returns
+pub returns-clause-point : goal.returns-clause-point
 unfolding vertex
-returns g c =
+returns-clause-point g c =
     let ring = g.F.Additive.ring in
     let all : c.loop-i.i ≡ c.args.n = omega (arith, c.loop-i-test.false, c.loop-i.auto.i-end) in
     c.new.ensures ∙ c.loop-i.invariant ∙ ap (λ m. map (λ i. if bit c.args.n i c.args.value == 1 then ring.one else ring.zero) (range_with_len 0 m)) all
