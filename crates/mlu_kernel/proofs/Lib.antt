@@ -1,3 +1,4 @@
 pub mod DoubleSums
 pub mod Blocks
 pub mod PlusRows
+pub mod Groups

@@ -11,9 +11,11 @@
 //! Stands on `mlu_ring`; the split tables of `mlu_eq` stand on it.
 #![tactic(auto)]
 
+mod basis_dot;
 mod dot;
 pub mod one_row;
 mod prefix;
 
+pub use basis_dot::packed_basis_dot;
 pub use dot::{compress_hi_dot_packed, compress_hi_dot_packed_eager};
 pub use prefix::{compress_prefix_to_packed_packed, compress_prefix_to_packed_packed_kernel_eager};

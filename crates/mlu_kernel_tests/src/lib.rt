@@ -5,4 +5,6 @@
 #![tactic(auto)]
 
 #[cfg(test)]
+mod basis_dots;
+#[cfg(test)]
 mod tests;
