@@ -10,5 +10,6 @@ pub mod Lengths
 pub mod Moved
 pub mod Products
 pub mod RowsMapped
+pub mod Runs
 pub mod Shifted
 pub mod Zipped

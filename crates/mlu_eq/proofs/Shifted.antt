@@ -104,7 +104,7 @@ module _ {R : Type 0} (ring : Ring R) (laws : RingLaws ring) where
       ∙ plus_rows-append ring laws old [] w e s is
 
   -- a row of weight zero changes nothing
-  plus_rows-zero : (old e : List R) → plus_rows ring old (𝟘 ∷ []) e ≡ old
+  pub plus_rows-zero : (old e : List R) → plus_rows ring old (𝟘 ∷ []) e ≡ old
   plus_rows-zero old e =
       ext_get_or 𝟘 (plus_rows ring old (𝟘 ∷ []) e) old (length-plus_rows ring laws old (𝟘 ∷ []) e)
       (λ z q.
@@ -118,7 +118,7 @@ module _ {R : Type 0} (ring : Ring R) (laws : RingLaws ring) where
       nothing (suc y) t = zero_product ring laws t
 
   -- the rows with the moved weights: those from the second row on, with all weights but the last
-  plus_rows-shifted : (old w e : List R) → plus_rows ring old (shifted ring w) e ≡ plus_rows ring old (take (length w - 1) w) (drop (length old) e)
+  pub plus_rows-shifted : (old w e : List R) → plus_rows ring old (shifted ring w) e ≡ plus_rows ring old (take (length w - 1) w) (drop (length old) e)
   plus_rows-shifted old w e =
       let b = take (length w - 1) w in
       let s = length old in

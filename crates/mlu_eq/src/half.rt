@@ -181,7 +181,7 @@ pub fn to_field<F: Field, EF: ExtensionField<F>, R: ExtensionField<R> + MapFrom<
     }
 }
 
-/// The images of the elements, in order.
+/// The images of the elements, in order and in one growth of exactly as many.
 ///
 /// # Errors
 /// Where the growth is refused.
@@ -191,10 +191,11 @@ pub fn images<E: Additive, R: MapFrom<E>>(
 ) -> Result<Vec<R>, AllocError>
     ensures { IfOk result (λ images. images.items ≡ map R.image elements.now) }
 {
-    elements
-        .iter()
-        .map(|element| R::map(*element))
-        .collect(alloc)
+    let mut images = Vec::with_capacity(alloc, elements.len())?;
+    for element in elements {
+        images.push(R::map(*element))?;
+    }
+    Ok(images)
 }
 
 /// The images of the lanes, in order.

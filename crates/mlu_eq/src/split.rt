@@ -6,6 +6,7 @@
 pub(crate) mod accumulate;
 mod dot;
 mod prefix;
+pub mod runs;
 mod shifted;
 mod suffix;
 

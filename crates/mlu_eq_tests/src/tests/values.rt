@@ -1,7 +1,7 @@
 //! Worked rows of values, and calls of their laws.
 ghost use Rattle.std.specs.Prelude.{◌≡◌, ◌^◌, length};
 
-use mlu_eq::laws::{affine, joined_prefix, joined_suffix, vertex};
+use mlu_eq::laws::{affine, joined_prefix, joined_suffix, padded, univariate, vertex};
 use mlu_eq::{eval_base, eval_ext};
 use mlu_ring::{Additive, Algebra, ExtensionField, Field, PrimeCharacteristicRing};
 use mlu_test_support::lists::pair;
@@ -72,5 +72,8 @@ pub fn laws<R: PrimeCharacteristicRing>(alloc: Global) -> Result<bool, AllocErro
     affine(&table);
     joined_prefix(&table, &first, &rest);
     joined_suffix(&table, &first, &rest);
+    univariate(&table);
+    let half = elements::<R>(alloc, &[1, 2])?;
+    padded(&half, &first, &rest);
     Ok(true)
 }

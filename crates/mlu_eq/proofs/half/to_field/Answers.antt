@@ -1,10 +1,9 @@
-use Rattle.std.proofs.Common.{◌*◌, ◌∙◌, false, map, length, ap, sym, subst}
+use Rattle.std.proofs.Common.{◌∙◌, length, ap, sym, subst}
 use Rattle.std.specs.Prelude.{IsTrue}
 use Rattle.std.specs.Int.{is_power_of_two}
 use Rattle.std.proofs.lemmas.List.{length-map}
 use Rattle.mlu_ring.specs.Lanes.{logical}
 use Rattle.mlu_ring.proofs.Logical.{length-logical}
-use Rattle.mlu_eq.proofs.Halves.{scalar_weights, packed_weights}
 use Rattle.mlu_eq.proofs.Lengths.{power_of_lanes}
 use Rattle.mlu_eq.proofs.half.to_field.Goals as goal
 

@@ -1,4 +1,4 @@
-use Rattle.std.proofs.Common.{◌<◌, ◌∙◌, length, subst, sym}
+use Rattle.std.proofs.Common.{◌<◌, length, subst, sym}
 use Rattle.mlu_eq.proofs.Halves.{packed_length}
 use Rattle.mlu_eq.proofs.Lengths.{positive_of_lanes}
 use Rattle.mlu_eq.proofs.half.EqMaybePacked.is_not_empty.Goals as goal

@@ -1,4 +1,4 @@
-use Rattle.std.proofs.Common.{◌^◌, ◌<◌, ◌∙◌, length, ap, sym, subst, arith}
+use Rattle.std.proofs.Common.{◌^◌, ◌<◌, ◌∙◌, length, sym, subst, arith}
 use Rattle.mlu_ring.proofs.PowersOfTwo.{exponent_fits, is_power_of_two-power}
 use Rattle.mlu_eq.proofs.Halves.{packed_length}
 use Rattle.mlu_eq.proofs.Lengths.{lanes_of_powers}

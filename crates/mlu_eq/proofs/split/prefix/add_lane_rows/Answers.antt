@@ -1,7 +1,6 @@
-use Rattle.std.proofs.Common.{◌≡◌, ◌*◌, [], ◌∙◌, map, take, drop, length, refl, ap, sym, arith}
+use Rattle.std.proofs.Common.{◌*◌, [], ◌∙◌, map, take, drop, length, refl, ap, sym, arith}
 use Rattle.std.proofs.lemmas.List.{take_all}
 use Rattle.mlu_ring.specs.Lanes.{logical}
-use Rattle.mlu_ring.proofs.Logical.{length-logical}
 use Rattle.mlu_kernel.specs.Kernels.{plus_rows}
 use Rattle.mlu_kernel.proofs.PlusRows.{plus_rows-none, rows_more}
 use Rattle.mlu_eq.proofs.RowsMapped.{row-map}

@@ -1,0 +1,221 @@
+//! Prefix compressions in runs of the first half: each run is added up from zeros in an
+//! accumulator, which is then added to the output.
+//!
+//! Nothing is carried from one run to the next: what a run needs of the entry before it is made
+//! again from its index.
+ghost use Rattle.std.specs.Prelude.{◌≡◌, ◌+◌, ◌*◌, ◌<◌, ◌≤◌, ◌∷◌, [], ℕ, List, length, map, refl};
+ghost use Rattle.mlu_ring.specs.Lanes.{IsLaneByLane, logical};
+ghost use Rattle.mlu_ring.specs.Successor.{shifted};
+ghost use Rattle.mlu_kernel.specs.Kernels.{plus_rows};
+ghost use Rattle.mlu_eq.specs.Split.{contents, row_weight, run_of};
+
+use super::prefix::{add_scalar_row, compress_prefix_into, compress_prefix_to_packed_into};
+use super::shifted::compress_prefix_shifted_into;
+use crate::half::EqMaybePacked;
+use mlu_ring::{Additive, ExtensionField, Field, Lanewise, PackedValue, PrimeCharacteristicRing};
+
+/// A compression at the first variables, which can be done run by run: what a run of the first
+/// half adds to an output whose places are a `T` each.
+pub trait PrefixCompression<F: Field, EF: ExtensionField<F>, T: PrimeCharacteristicRing> {
+    ghost moved: { List EF → List EF };
+
+    ghost lanes: { T → List EF };
+
+    ghost width: { ℕ };
+
+    /// Adds to `out` a row for each of `run` entries of `eq0` from `start` on and each weight of
+    /// `eq1`. Asks for a run that is not empty, and for its rows alone, as long as `out` has lanes.
+    fn add_run(
+        eq0: &[EF],
+        eq1: &EqMaybePacked<F, EF>,
+        start: usize,
+        run: usize,
+        out: &mut [T],
+        rows: &[F],
+    )
+        requires some { 0 < run }
+        requires within { start + run ≤ length eq0.now }
+        requires size { length rows.now ≡ run * (length eq1.now.weights * (length out.old * width)) }
+        ensures { logical lanes out.new ≡ plus_rows EF.ring (logical lanes out.old)
+            (run_of (length eq1.now.weights) start run (moved (contents EF.ring eq0.now eq1.now.weights))) (map EF.embed rows.now) };
+
+    ghost length_moved: { (w : List EF) → 0 < length w → length (moved w) ≡ length w };
+
+    ghost length_lanes: { (p : T) → length (lanes p) ≡ width };
+
+    ghost lane_by_lane: { IsLaneByLane width lanes T.ring EF.ring };
+}
+
+/// The sum of the rows, each times its weight.
+pub struct Plain;
+
+impl<F: Field, EF: ExtensionField<F>> PrefixCompression<F, EF, EF> for Plain {
+    ghost use Rattle.mlu_ring.proofs.TrivialExtension.{one_lane};
+
+    ghost moved = { λ w. w };
+
+    ghost lanes = { λ x. x ∷ [] };
+
+    ghost width = { 1 };
+
+    #[inline]
+    fn add_run(
+        eq0: &[EF],
+        eq1: &EqMaybePacked<F, EF>,
+        start: usize,
+        run: usize,
+        out: &mut [EF],
+        rows: &[F],
+    ) {
+        compress_prefix_into(&eq0[start..start + run], eq1, out, rows);
+    }
+
+    ghost length_moved = { λ w some. refl };
+
+    ghost length_lanes = { λ p. refl };
+
+    ghost lane_by_lane = { one_lane EF.ring };
+}
+
+/// The same in packed form.
+pub struct ToPacked;
+
+impl<F: Field, EF: ExtensionField<F>> PrefixCompression<F, EF, EF::ExtensionPacking> for ToPacked {
+    ghost moved = { λ w. w };
+
+    ghost lanes = { EF.ExtensionPacking.ext_lanes };
+
+    ghost width = { F.Packing.WIDTH };
+
+    #[inline]
+    fn add_run(
+        eq0: &[EF],
+        eq1: &EqMaybePacked<F, EF>,
+        start: usize,
+        run: usize,
+        out: &mut [EF::ExtensionPacking],
+        rows: &[F],
+    ) {
+        compress_prefix_to_packed_into(&eq0[start..start + run], eq1, out, rows);
+    }
+
+    ghost length_moved = { λ w some. refl };
+
+    ghost length_lanes = { EF.ExtensionPacking.lanes_are.length-parts };
+
+    ghost lane_by_lane = { EF.ExtensionPacking.lane_by_lane };
+}
+
+/// The sum of the rows, each times the weight of the place before its own.
+pub struct Shifted;
+
+impl<F: Field, EF: ExtensionField<F>> PrefixCompression<F, EF, EF> for Shifted {
+    ghost use Rattle.mlu_ring.proofs.Shifted.{length-moved_up};
+    ghost use Rattle.mlu_ring.proofs.TrivialExtension.{one_lane};
+
+    ghost moved = { shifted EF.ring };
+
+    ghost lanes = { λ x. x ∷ [] };
+
+    ghost width = { 1 };
+
+    #[inline]
+    fn add_run(
+        eq0: &[EF],
+        eq1: &EqMaybePacked<F, EF>,
+        start: usize,
+        run: usize,
+        out: &mut [EF],
+        rows: &[F],
+    ) {
+        eq1.is_not_empty();
+        add_border(eq0, eq1, start, out, rows);
+        compress_prefix_shifted_into(&eq0[start..start + run], eq1, out, rows);
+    }
+
+    ghost length_moved = { length-moved_up EF.ring.zero };
+
+    ghost length_lanes = { λ p. refl };
+
+    ghost lane_by_lane = { one_lane EF.ring };
+}
+
+/// Adds the first of the rows that begin at `start`, times the weight of the place before it: the
+/// last weight of the entry before, and none at the start of the table.
+#[inline]
+fn add_border<F: Field, EF: ExtensionField<F>>(
+    eq0: &[EF],
+    eq1: &EqMaybePacked<F, EF>,
+    start: usize,
+    out: &mut [EF],
+    rows: &[F],
+)
+    requires within { start < length eq0.now }
+    requires row { length out.old ≤ length rows.now }
+    ensures { out.new ≡ plus_rows EF.ring out.old
+        (row_weight EF.ring (length eq1.now.weights) start (shifted EF.ring (contents EF.ring eq0.now eq1.now.weights)) ∷ []) (map EF.embed rows.now) }
+{
+    if start == 0 {
+        return;
+    }
+    eq1.is_not_empty();
+    let border = eq0[start - 1] * eq1.last_scalar();
+    add_scalar_row(out, border, &rows[..out.len()]);
+}
+
+/// Adds the rows of `entries` to `out`, each times its weight, in runs of `run_length` entries of
+/// `eq0`, the last one perhaps shorter. What the accumulator held does not count.
+///
+/// Asks for halves and runs that are not empty, for an accumulator as long as `out`, and for as many
+/// rows as the split table has entries.
+pub fn compress_prefix_in_runs<
+    F: Field,
+    EF: ExtensionField<F>,
+    T: PrimeCharacteristicRing,
+    P: PrefixCompression<F, EF, T>,
+>(
+    eq0: &[EF],
+    eq1: &EqMaybePacked<F, EF>,
+    run_length: usize,
+    out: &mut [T],
+    accumulator: &mut [T],
+    entries: &[F],
+)
+    requires some { 0 < length eq0.now }
+    requires run { 0 < run_length }
+    requires accumulator { length accumulator.old ≡ length out.old }
+    requires size { length entries.now ≡ length eq0.now * (length eq1.now.weights * (length out.old * P.width)) }
+    ensures { logical P.lanes out.new
+        ≡ plus_rows EF.ring (logical P.lanes out.old) (P.moved (contents EF.ring eq0.now eq1.now.weights)) (map EF.embed entries.now) }
+{
+    eq1.is_not_empty();
+    for i in 0..eq0.len().div_ceil(run_length) {
+        let start = i * run_length;
+        let run = run_length.min(eq0.len() - start);
+        clear(accumulator);
+        let rows = rows_of_run(entries, eq0.len(), start, run);
+        P::add_run(eq0, eq1, start, run, accumulator, rows);
+        T::add_each(out, accumulator);
+    }
+}
+
+/// Zero in each place.
+fn clear<T: Additive>(out: &mut [T])
+    ensures { out.new ≡ map (λ x. T.ring.zero) out.old }
+{
+    for place in out.iter_mut() {
+        *place = T::ZERO;
+    }
+}
+
+/// So many rows of the slice cut into `rows` rows, from row `start` on.
+#[inline]
+fn rows_of_run<T>(values: &[T], rows: usize, start: usize, run: usize) -> &[T]
+    requires some { 0 < run }
+    requires within { start + run ≤ rows }
+    ensures exact { (n : ℕ) → length values.now ≡ rows * n → result.now ≡ run_of n start run values.now }
+    ensures size { (n : ℕ) → length values.now ≡ rows * n → length result.now ≡ run * n }
+{
+    let width = values.len() / rows;
+    &values[start * width..(start + run) * width]
+}
