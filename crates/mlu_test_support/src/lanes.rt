@@ -1,7 +1,7 @@
 //! Lists in lanes.
 ghost use Rattle.std.specs.Prelude.{◌≡◌, ◌*◌, IfOk, length, vec_len};
 
-use mlu_ring::{ExtensionField, Field, PackedFieldExtension, PackedValue};
+use mlu_ring::{ExtensionField, Field, PackedFieldExtension, PackedValue, row_of};
 use std::alloc::{AllocError, Global};
 
 /// The values as `n` packed ones.
@@ -13,11 +13,9 @@ pub fn packed<F: Field, EF: ExtensionField<F>>(
     requires { length values.now ≡ n * F.Packing.WIDTH }
     ensures { IfOk result (λ packed. vec_len packed ≡ n) }
 {
-    let width = F::Packing::WIDTH;
     let mut packed = Vec::with_capacity(alloc, n)?;
     for i in 0..n {
-        let start = i * width;
-        packed.push(EF::ExtensionPacking::from_ext_slice(&values[start..start + width]))?;
+        packed.push(EF::ExtensionPacking::from_ext_slice(row_of(values, n, i)))?;
     }
     Ok(packed)
 }

@@ -174,3 +174,18 @@ pub fn moved<R: PrimeCharacteristicRing>(alloc: Global, entries: &[R]) -> Result
     }
     Ok(moved)
 }
+
+/// The entries moved up by one place, and the last one added at the place `end`.
+pub fn next<R: PrimeCharacteristicRing>(
+    alloc: Global,
+    entries: &[R],
+    end: usize,
+) -> Result<Vec<R>, AllocError>
+    ensures { IfOk result (λ next. vec_len next ≡ length entries.now) }
+{
+    let mut next = moved(alloc, entries)?;
+    if let Some(place) = next.get_mut(end) {
+        *place = *place + last(entries);
+    }
+    Ok(next)
+}

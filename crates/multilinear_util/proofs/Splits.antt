@@ -1,5 +1,5 @@
 -- Split tables: what their halves stand for, and the sizes of what they are paired with.
-use Rattle.std.proofs.Common.{◌≡◌, ℕ, ◌-◌, ◌*◌, ◌+◌, ◌/◌, ◌^◌, ◌<◌, ◌≤◌, List, ◌++◌, map, length, sym, ap, ◌∙◌, subst, arith, pow-add}
+use Rattle.std.proofs.Common.{◌≡◌, ℕ, ◌-◌, ◌*◌, ◌+◌, ◌/◌, ◌^◌, ◌<◌, ◌≤◌, List, ◌++◌, map, length, refl, sym, ap, ◌∙◌, subst, arith, pow-add}
 use Rattle.std.proofs.lemmas.List.{length-map}
 use Rattle.std.proofs.lemmas.Nat.{pow_pos}
 use Rattle.std.proofs.Math.Nat.{mul_comm, mul_assoc}
@@ -41,6 +41,11 @@ module _ {R : Type 0} (ring : Ring R) (split : Split R) (slice : List R) (half :
 
   pub halves-size : (n : ℕ) → n ≡ length (split_entries ring split) → n ≡ length slice * length half.weights
   halves-size n is = is ∙ ap length (sym halves-entries) ∙ length-contents ring slice half.weights
+
+  -- so many places for each entry of the table
+  pub halves-room : (values places : ℕ) → values ≡ length (split_entries ring split) * places → values ≡ length slice * (length half.weights * places)
+  halves-room values places is =
+      is ∙ ap (λ k. k * places) (halves-size (length (split_entries ring split)) refl) ∙ mul_assoc (length slice) (length half.weights) places
 
   -- there is a row, as long as the output, for each entry of the table
   pub halves-rows : (k n values out : ℕ) → length (split_entries ring split) ≡ 2 ^ k → values ≡ 2 ^ n → out ≡ 2 ^ (n - k) → 2 ^ k ≤ 2 ^ n → values ≡ length slice * (length half.weights * out)
@@ -100,3 +105,10 @@ lanes_half_fits n w l e width le fits =
     let product : 2 ^ n * w ≡ 2 ^ (n + l) = ap (λ m. 2 ^ n * m) width ∙ sym (pow-add 2 n l) in
     let more : 2 ^ n ≤ 2 ^ (n + l) = power_within n (n + l) (omega arith) in
     half_fits n e (omega (arith, product, more, le)) fits
+
+-- the values that are left fit a word
+pub left_fits : (n k : ℕ) → n < 64 → 2 ^ (n - k) < 2 ^ 64
+left_fits n k h = grind (arith, pow_mono {i = n - k} {j = 63}, h)
+
+pub one_lane_left : (e c s : ℕ) → e ≡ c * s → e ≡ c * (s * 1)
+one_lane_left e c s is = is ∙ omega arith

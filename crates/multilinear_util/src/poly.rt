@@ -1,5 +1,5 @@
 //! Polynomials by their tables, owned and borrowed.
-ghost use Rattle.std.specs.Prelude.{◌≡◌, ◌+◌, ◌-◌, ◌/◌, ◌<◌, ◌≤◌, ◌^◌, ◌++◌, ◌∷◌, [], length, take, IfOk, IsTrue, is_ok, if◌then◌else◌, replicate, MatchOption};
+ghost use Rattle.std.specs.Prelude.{◌≡◌, ◌+◌, ◌-◌, ◌/◌, ◌<◌, ◌≤◌, ◌^◌, ◌++◌, ◌∷◌, [], length, take, IfOk, IsOk, IsTrue, is_ok, if◌then◌else◌, replicate, MatchOption};
 ghost use Rattle.std.specs.Int.{is_power_of_two};
 ghost use Rattle.std.specs.Borrow.{sem};
 ghost use Rattle.std.specs.Cmp.Lexicographic.{pointwise, lists_per, lists_equiv};
@@ -164,11 +164,13 @@ impl<F: PrimeCharacteristicRing> Poly<F> {
     /// values.
     ///
     /// # Errors
-    /// Where the growth is refused; the polynomial is then as before.
+    /// Where the growth is refused; the polynomial is then as before. The size that is there does not
+    /// fail.
     pub fn pad_zeros(&mut self, variables: usize) -> Result<(), AllocError>
         requires fits { 2 ^ variables < 2 ^ 64 }
         requires grows { length self.old ≤ 2 ^ variables }
-        ensures { self.new ≡ (if is_ok result then self.old ++ replicate (2 ^ variables - length self.old) F.ring.zero else self.old) }
+        ensures padded { self.new ≡ (if is_ok result then self.old ++ replicate (2 ^ variables - length self.old) F.ring.zero else self.old) }
+        ensures same { length self.old ≡ 2 ^ variables → IsOk result }
     {
         self.evals.resize(table_length(variables), F::ZERO)
     }

@@ -12,6 +12,7 @@ mod accumulation;
 mod compression;
 pub mod eq;
 mod evaluation;
+mod runs;
 
 use crate::point::Point;
 use crate::poly::Poly;

@@ -8,6 +8,7 @@ mod folds;
 mod packing;
 mod polys;
 mod rings;
+mod runs;
 mod splits;
 mod storages;
 mod successors;

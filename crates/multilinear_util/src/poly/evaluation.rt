@@ -3,6 +3,7 @@ ghost use Rattle.std.specs.Prelude.{◌≡◌, ◌+◌, ◌<◌, ◌*◌, ◌^�
 ghost use Rattle.mlu_ring.specs.Lanes.{logical};
 ghost use Rattle.mlu_ring.specs.Successor.{next};
 ghost use Rattle.mlu_ring.specs.Tables.{pair, value, weights};
+ghost use Rattle.mlu_point.specs.Rules.{next_by};
 ghost use Rattle.multilinear_util.specs.Thresholds.{threshold};
 ghost use Rattle.multilinear_util.specs.Views.{entries};
 
@@ -10,7 +11,7 @@ use super::Poly;
 use super::view::PolyView;
 use crate::split_eq::SplitEq;
 use mlu_eq::{eval_base, eval_ext};
-use mlu_point::point::Point;
+use mlu_point::point::{Point, Successor};
 use mlu_ring::{ExtensionField, Field, PackedValue};
 use std::alloc::{AllocError, Global};
 
@@ -63,8 +64,26 @@ impl<F: Field> PolyView<'_, F> {
         requires { length (entries self.now) ≡ 2 ^ length point.now }
         ensures { IfOk result (λ x. x ≡ pair EF.ring (next EF.ring (weights EF.ring point.now)) (map EF.embed (entries self.now))) }
     {
+        self.eval_next_base_by(alloc, Successor::RepeatLast, point)
+    }
+
+    /// The sum of the values, each times the weights at the point of the vertices whose successor by
+    /// the rule it stands at: the weight of `x` times value `x + 1`, and the last weight times the
+    /// last value or the first. Asks for a point with as many coordinates as there are variables.
+    ///
+    /// # Errors
+    /// Where memory is refused.
+    pub fn eval_next_base_by<EF: ExtensionField<F>>(
+        &self,
+        alloc: Global,
+        rule: Successor,
+        point: &Point<EF>,
+    ) -> Result<EF, AllocError>
+        requires { length (entries self.now) ≡ 2 ^ length point.now }
+        ensures { IfOk result (λ x. x ≡ pair EF.ring (next_by rule EF.ring (weights EF.ring point.now)) (map EF.embed (entries self.now))) }
+    {
         let split = SplitEq::<F, EF>::new_packed(alloc, point, EF::ONE)?;
-        Ok(split.eval_next_base(*self))
+        Ok(split.eval_next_base_by(rule, *self))
     }
 
     /// The value at a point of the table's own field, an extension of `BaseField`. Asks for a point
@@ -149,6 +168,19 @@ impl<F: Field> Poly<F> {
         ensures { IfOk result (λ x. x ≡ pair EF.ring (next EF.ring (weights EF.ring point.now)) (map EF.embed self.now)) }
     {
         self.as_view().eval_next_base(alloc, point)
+    }
+
+    /// As [`PolyView::eval_next_base_by`].
+    pub fn eval_next_base_by<EF: ExtensionField<F>>(
+        &self,
+        alloc: Global,
+        rule: Successor,
+        point: &Point<EF>,
+    ) -> Result<EF, AllocError>
+        requires { length self.now ≡ 2 ^ length point.now }
+        ensures { IfOk result (λ x. x ≡ pair EF.ring (next_by rule EF.ring (weights EF.ring point.now)) (map EF.embed self.now)) }
+    {
+        self.as_view().eval_next_base_by(alloc, rule, point)
     }
 
     /// As [`PolyView::eval_ext`].

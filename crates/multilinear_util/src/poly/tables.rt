@@ -3,9 +3,10 @@ ghost use Rattle.std.specs.Prelude.{◌≡◌, ◌^◌, ◌<◌, ◌≤◌, leng
 ghost use Rattle.mlu_ring.specs.Lanes.{logical};
 ghost use Rattle.mlu_ring.specs.Successor.{next};
 ghost use Rattle.mlu_ring.specs.Tables.{weights};
+ghost use Rattle.mlu_point.specs.Rules.{next_by};
 
 use super::{Poly, table_length};
-use mlu_point::point::{BitOrder, fill_equality_table};
+use mlu_point::point::{BitOrder, Successor, fill_equality_table};
 use mlu_ring::{
     Additive, Algebra, ExtensionField, Field, Lanewise, PackedFieldExtension, PackedValue,
     PrimeCharacteristicRing,
@@ -37,22 +38,39 @@ impl<F: PrimeCharacteristicRing> Poly<F> {
         requires { 2 ^ length point.now < 2 ^ 64 }
         ensures { IfOk result (λ poly. poly ≡ next F.ring (weights F.ring point.now)) }
     {
+        Poly::new_next_from_point_by(alloc, Successor::RepeatLast, point)
+    }
+
+    /// The weights at the point, each moved to the successor of its vertex by the rule: as
+    /// [`Poly::new_next_from_point`], or with the last weight as entry 0. Asks that `2^n` fits
+    /// `usize`, where the point has `n` coordinates.
+    ///
+    /// # Errors
+    /// Where the memory for the table is refused.
+    pub fn new_next_from_point_by(
+        alloc: Global,
+        rule: Successor,
+        point: &[F],
+    ) -> Result<Self, AllocError>
+        requires { 2 ^ length point.now < 2 ^ 64 }
+        ensures { IfOk result (λ poly. poly ≡ next_by rule F.ring (weights F.ring point.now)) }
+    {
         let mut table = Poly::new_from_point(alloc, point, F::ONE)?;
-        move_to_next(table.as_mut_slice());
+        move_to_next(rule, table.as_mut_slice());
         Ok(table)
     }
 }
 
-/// Moves each weight to the next place; the last one stays too.
-fn move_to_next<R: Additive>(weights: &mut [R])
+/// Moves each weight to the next place, and the last one where the rule sends it.
+fn move_to_next<R: Additive>(rule: Successor, weights: &mut [R])
     requires { 0 < length weights.old }
-    ensures { weights.new ≡ next R.ring weights.old }
+    ensures { weights.new ≡ next_by rule R.ring weights.old }
 {
     weights.rotate_right(1);
     let last = weights[0];
     weights[0] = R::ZERO;
-    let top = weights.len() - 1;
-    weights[top] = weights[top] + last;
+    let end = rule.after_last(weights.len());
+    weights[end] = weights[end] + last;
 }
 
 impl<A: Copy> Poly<A> {

@@ -2,6 +2,8 @@
 ghost use Rattle.std.specs.Prelude.{◌≡◌, ⊤, ◌<◌, ◌^◌, ◌∷◌, [], length, IsTrue, MatchOption};
 ghost use Rattle.std.specs.Int.{is_power_of_two};
 
+use mlu_eq::eval_ext;
+use mlu_ring::{AffineInEach, PrimeCharacteristicRing};
 use std::alloc::AllocError;
 use std::slice;
 
@@ -103,4 +105,27 @@ impl<'a, F: Copy> PolyView<'a, F> {
             _ => None,
         }
     }
+}
+
+/// The function is the value at a point, by the recursion on the first variable: it takes no
+/// memory.
+impl<EF: PrimeCharacteristicRing> AffineInEach<EF> for PolyView<'_, EF> {
+    ghost use Rattle.mlu_ring.specs.Tables.{value};
+    ghost use Rattle.mlu_ring.proofs.Coordinates.{value-affine_in_each};
+    ghost use Rattle.multilinear_util.specs.Views.{entries, variables};
+
+    ghost coordinates = { variables };
+
+    ghost value_at = { λ view point. value EF.ring (entries view) point };
+
+    #[inline]
+    fn arity(&self) -> usize {
+        self.num_variables()
+    }
+
+    fn at(&self, point: &[EF]) -> EF {
+        eval_ext(self.as_slice(), point)
+    }
+
+    ghost affine = { λ view. value-affine_in_each EF.ring EF.Additive.laws (variables view) (entries view) };
 }

@@ -1,5 +1,5 @@
 //! Compressions of a polynomial by a split table, whose variables are the first or the last ones.
-ghost use Rattle.std.specs.Prelude.{◌≡◌, ◌*◌, ◌≤◌, length, map, IfOk};
+ghost use Rattle.std.specs.Prelude.{◌≡◌, ◌*◌, ◌<◌, ◌≤◌, length, map, IfOk};
 ghost use Rattle.mlu_ring.specs.Lanes.{logical};
 ghost use Rattle.mlu_ring.specs.Successor.{shifted};
 ghost use Rattle.mlu_ring.specs.Tables.{front, back};
@@ -8,6 +8,7 @@ ghost use Rattle.multilinear_util.specs.Views.{entries};
 use super::SplitEq;
 use crate::poly::{Poly, PolyView};
 use mlu_eq::split;
+use mlu_eq::split::runs::{Plain, Shifted, ToPacked};
 use mlu_ring::{ExtensionField, Field, PackedValue};
 use std::alloc::{AllocError, Global};
 
@@ -28,10 +29,26 @@ impl<F: Field, EF: ExtensionField<F>> SplitEq<F, EF> {
         requires { length (split_entries EF.ring self.now) ≤ length (entries poly) }
         ensures { IfOk result (λ folded. folded ≡ front EF.ring (split_entries EF.ring self.now) (map EF.embed (entries poly.entry))) }
     {
-        let mut out = Poly::zero(alloc, poly.num_variables() - self.num_variables())?;
-        let (eq0, eq1) = self.halves();
-        split::compress_prefix_into(eq0, eq1, out.as_mut_slice(), poly.as_slice());
-        Ok(out)
+        self.compress_prefix_split(alloc, poly, 1)
+    }
+
+    /// [`SplitEq::compress_prefix`] with the first half cut into `parts` runs, of which each is
+    /// added up by itself. Asks for one part or more; parts past the entries of the half are empty.
+    ///
+    /// # Errors
+    /// Where the memory for the values that are left, or for those of a run, is refused.
+    pub fn compress_prefix_split(
+        &self,
+        alloc: Global,
+        poly: PolyView<'_, F>,
+        parts: usize,
+    ) -> Result<Poly<EF>, AllocError>
+        requires parts { 0 < parts }
+        requires variables { length (split_entries EF.ring self.now) ≤ length (entries poly) }
+        ensures { IfOk result (λ folded. folded ≡ front EF.ring (split_entries EF.ring self.now) (map EF.embed (entries poly.entry))) }
+    {
+        let left = poly.num_variables() - self.num_variables();
+        self.compressed::<EF, Plain>(alloc, poly, left, parts)
     }
 
     /// [`SplitEq::compress_prefix`] in packed form: its values are the lanes, joined in order. Asks
@@ -48,11 +65,28 @@ impl<F: Field, EF: ExtensionField<F>> SplitEq<F, EF> {
         ensures { IfOk result (λ folded. logical EF.ExtensionPacking.ext_lanes folded
             ≡ front EF.ring (split_entries EF.ring self.now) (map EF.embed (entries poly.entry))) }
     {
+        self.compress_prefix_to_packed_split(alloc, poly, 1)
+    }
+
+    /// [`SplitEq::compress_prefix_to_packed`] with the first half cut into `parts` runs, as by
+    /// [`SplitEq::compress_prefix_split`].
+    ///
+    /// # Errors
+    /// Where the memory for the values that are left, or for those of a run, is refused.
+    pub fn compress_prefix_to_packed_split(
+        &self,
+        alloc: Global,
+        poly: PolyView<'_, F>,
+        parts: usize,
+    ) -> Result<Poly<EF::ExtensionPacking>, AllocError>
+        requires parts { 0 < parts }
+        requires variables { length (split_entries EF.ring self.now) * F.Packing.WIDTH ≤ length (entries poly) }
+        ensures { IfOk result (λ folded. logical EF.ExtensionPacking.ext_lanes folded
+            ≡ front EF.ring (split_entries EF.ring self.now) (map EF.embed (entries poly.entry))) }
+    {
         let left = poly.num_variables() - self.num_variables();
-        let mut out = Poly::zero(alloc, left - <F::Packing as PackedValue>::LOG_WIDTH)?;
-        let (eq0, eq1) = self.halves();
-        split::compress_prefix_to_packed_into(eq0, eq1, out.as_mut_slice(), poly.as_slice());
-        Ok(out)
+        let groups = left - <F::Packing as PackedValue>::LOG_WIDTH;
+        self.compressed::<EF::ExtensionPacking, ToPacked>(alloc, poly, groups, parts)
     }
 
     /// The polynomial compressed at its last variables: value `y` is the sum over `z` of entry `z`
@@ -98,10 +132,27 @@ impl<F: Field, EF: ExtensionField<F>> SplitEq<F, EF> {
         ensures { IfOk result (λ folded. folded
             ≡ front EF.ring (shifted EF.ring (split_entries EF.ring self.now)) (map EF.embed (entries poly.entry))) }
     {
-        let mut out = Poly::zero(alloc, poly.num_variables() - self.num_variables())?;
-        let (eq0, eq1) = self.halves();
-        split::compress_prefix_shifted_into(eq0, eq1, out.as_mut_slice(), poly.as_slice());
-        Ok(out)
+        self.compress_prefix_shifted_split(alloc, poly, 1)
+    }
+
+    /// [`SplitEq::compress_prefix_shifted`] with the first half cut into `parts` runs, as by
+    /// [`SplitEq::compress_prefix_split`].
+    ///
+    /// # Errors
+    /// Where the memory for the values that are left, or for those of a run, is refused.
+    pub fn compress_prefix_shifted_split(
+        &self,
+        alloc: Global,
+        poly: PolyView<'_, F>,
+        parts: usize,
+    ) -> Result<Poly<EF>, AllocError>
+        requires parts { 0 < parts }
+        requires variables { length (split_entries EF.ring self.now) ≤ length (entries poly) }
+        ensures { IfOk result (λ folded. folded
+            ≡ front EF.ring (shifted EF.ring (split_entries EF.ring self.now)) (map EF.embed (entries poly.entry))) }
+    {
+        let left = poly.num_variables() - self.num_variables();
+        self.compressed::<EF, Shifted>(alloc, poly, left, parts)
     }
 
     /// [`SplitEq::compress_suffix`] by the table moved up by one place: each value meets the entry

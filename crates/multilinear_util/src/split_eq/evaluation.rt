@@ -3,11 +3,13 @@ ghost use Rattle.std.specs.Prelude.{◌≡◌, ◌*◌, length, map, IfOk, IsOk,
 ghost use Rattle.mlu_ring.specs.Lanes.{logical};
 ghost use Rattle.mlu_ring.specs.Successor.{next};
 ghost use Rattle.mlu_ring.specs.Tables.{pair};
+ghost use Rattle.mlu_point.specs.Rules.{next_by};
 ghost use Rattle.multilinear_util.specs.Views.{entries};
 
 use super::SplitEq;
 use crate::poly::PolyView;
 use mlu_eq::split;
+use mlu_point::point::Successor;
 use mlu_ring::{Additive, Algebra, ExtensionField, Field};
 use std::alloc::{AllocError, Global};
 
@@ -31,10 +33,21 @@ impl<F: Field, EF: ExtensionField<F>> SplitEq<F, EF> {
         requires { length (entries poly) ≡ length (split_entries EF.ring self.now) }
         ensures { result ≡ pair EF.ring (next EF.ring (split_entries EF.ring self.now)) (map EF.embed (entries poly.entry)) }
     {
+        self.eval_next_base_by(Successor::RepeatLast, poly)
+    }
+
+    /// The sum of the polynomial's base values, each times the entries of the places whose successor
+    /// by the rule it stands at: entry `x` times value `x + 1`, and the last entry times the last
+    /// value or the first. Asks for as many values as entries.
+    pub fn eval_next_base_by(&self, rule: Successor, poly: PolyView<'_, F>) -> EF
+        requires { length (entries poly) ≡ length (split_entries EF.ring self.now) }
+        ensures { result ≡ pair EF.ring (next_by rule EF.ring (split_entries EF.ring self.now)) (map EF.embed (entries poly.entry)) }
+    {
         let values = poly.as_slice();
         let (eq0, eq1) = self.halves();
         let steps = split::dot_base_shifted(eq0, eq1, values);
-        steps + self.last_scalar().scale(values[values.len() - 1])
+        let end = rule.after_last(values.len());
+        steps + self.last_scalar().scale(values[end])
     }
 
     /// The sum of the polynomial's values, each times its entry. Asks for as many values as entries.

@@ -2,7 +2,7 @@
 //! pays for every implementation that the rings stand on, and a call of these pays for none.
 ghost use Rattle.std.specs.Prelude.{◌≤◌};
 
-use super::{compressions, folds, packing, polys, splits, storages, successors, tables};
+use super::{compressions, folds, packing, polys, runs, splits, storages, successors, tables};
 use mlu_ext::QuarticExtension;
 use mlu_lanes::{BabyBear, LaneWidth, Lanes, WrappingU64};
 use mlu_ring::{ExtensionField, Field, Sample};
@@ -31,15 +31,20 @@ pub enum Row {
     Owned,
     PackedStorage,
     Packs,
+    RowsByRule,
+    RunsMoved,
+    RunsOfSixteen,
     ScalarStorage,
     ScaleOfAConstant,
     ScaledNextRows,
     Sums,
     TablesOfPoints,
+    TheFunction,
     ToPacked,
     ValueInTheExtension,
     ValueOfLanes,
     ValuesAtTheNextRows,
+    ValuesByRule,
     Views,
 }
 
@@ -72,15 +77,20 @@ fn holds<F: Field + Sample, EF: ExtensionField<F> + Sample>(
         Row::Owned => polys::owns::<EF>(alloc),
         Row::PackedStorage => storages::packed::<F, EF>(alloc),
         Row::Packs => packing::packs::<F, EF>(alloc),
+        Row::RowsByRule => successors::has_rows_by_rule::<F, EF>(alloc),
+        Row::RunsMoved => runs::moved::<F, EF>(alloc),
+        Row::RunsOfSixteen => runs::of_sixteen::<F, EF>(alloc),
         Row::ScalarStorage => storages::scalar::<F, EF>(alloc),
         Row::ScaleOfAConstant => compressions::scales_a_constant::<F, EF>(alloc),
         Row::ScaledNextRows => successors::meets_scaled_rows::<F, EF>(alloc),
         Row::Sums => folds::sums::<EF>(alloc),
         Row::TablesOfPoints => tables::of_points::<F, EF>(alloc),
+        Row::TheFunction => runs::is_the_function::<EF>(alloc),
         Row::ToPacked => folds::to_packed::<F, EF>(alloc),
         Row::ValueInTheExtension => compressions::evaluates_monomials::<F, EF>(alloc),
         Row::ValueOfLanes => compressions::value_of_lanes::<F, EF>(alloc),
         Row::ValuesAtTheNextRows => successors::meets_next_rows::<F, EF>(alloc),
+        Row::ValuesByRule => successors::meets_rows_by_rule::<F, EF>(alloc),
         Row::Views => polys::is_viewed::<EF>(alloc),
     }
 }

@@ -4,10 +4,10 @@ ghost use Rattle.std.specs.Prelude.{◌≡◌, ◌+◌, ◌*◌, ◌≤◌, ◌<
 ghost use Rattle.multilinear_util.specs.Split.{split_entries};
 
 use super::rings::{Row, quartics, residues};
-use super::sums::{Sums, are_compressions, are_next, base_sums, is_prefix};
+use super::sums::{Sums, are_compressions, base_sums, is_prefix, next_by};
 use mlu_ring::{Additive, ExtensionField, Field, PackedValue, PrimeCharacteristicRing, Sample};
 use mlu_test_support::plain;
-use multilinear_util::point::Point;
+use multilinear_util::point::{Point, Successor};
 use multilinear_util::poly::Poly;
 use multilinear_util::split_eq::SplitEq;
 use rand_core::SeedableRng;
@@ -40,7 +40,8 @@ fn has_sums<F: Field, EF: ExtensionField<F>>(
     requires { length poly.now ≡ length (split_entries EF.ring split.now) }
 {
     split.eval_base(poly.as_view()) == sums.value
-        && split.eval_next_base(poly.as_view()) == sums.steps + sums.end
+        && split.eval_next_base(poly.as_view()) == sums.repeated
+        && split.eval_next_base_by(Successor::Wrap, poly.as_view()) == sums.wrapped
 }
 
 /// Whether the moved table leaves this one value.
@@ -144,7 +145,9 @@ fn compresses<F: Field + Sample, EF: ExtensionField<F>>(
     Ok(
         compresses_scalars(alloc, split, &poly, table)?
             && compresses_moved(alloc, split, &poly, table)?
-            && compresses_to_packed(alloc, split, &poly, table)?,
+            && compresses_to_packed(alloc, split, &poly, table)?
+            && compresses_in_runs(alloc, split, &poly, table, 3)?
+            && compresses_in_runs(alloc, split, &poly, table, usize::MAX)?,
     )
 }
 
@@ -203,6 +206,30 @@ fn compresses_to_packed<F: Field, EF: ExtensionField<F>>(
     is_prefix(alloc, left.as_slice(), table, poly.as_slice())
 }
 
+/// Whether the table, cut into so many runs, compresses as the plain sums say.
+fn compresses_in_runs<F: Field, EF: ExtensionField<F>>(
+    alloc: Global,
+    split: &SplitEq<F, EF>,
+    poly: &Poly<F>,
+    table: &[EF],
+    parts: usize,
+) -> Result<bool, AllocError>
+    requires parts { 0 < parts }
+    requires variables { length (split_entries EF.ring split.now) * F.Packing.WIDTH ≤ length poly.now }
+    requires moved { length (split_entries EF.ring split.now) ≤ length poly.now }
+{
+    let prefix = split.compress_prefix_split(alloc, poly.as_view(), parts)?;
+    let packed = split.compress_prefix_to_packed_split(alloc, poly.as_view(), parts)?;
+    let left = packed.unpack::<F, EF>(alloc)?;
+    let after = split.compress_prefix_shifted_split(alloc, poly.as_view(), parts)?;
+    let moved = plain::moved(alloc, table)?;
+    Ok(
+        is_prefix(alloc, prefix.as_slice(), table, poly.as_slice())?
+            && is_prefix(alloc, left.as_slice(), table, poly.as_slice())?
+            && is_prefix(alloc, after.as_slice(), &moved, poly.as_slice())?,
+    )
+}
+
 /// Whether a split table answers as the table of its entries.
 fn answers<F: Field + Sample, EF: ExtensionField<F> + Sample>(
     alloc: Global,
@@ -258,7 +285,8 @@ fn has_base_values<F: Field + Sample, EF: ExtensionField<F>>(
     let sums = base_sums(alloc, weights, poly.as_slice())?;
     Ok(
         poly.eval_base(alloc, point)? == sums.value
-            && poly.eval_next_base(alloc, point)? == sums.steps + sums.end,
+            && poly.eval_next_base(alloc, point)? == sums.repeated
+            && poly.eval_next_base_by(alloc, Successor::Wrap, point)? == sums.wrapped,
     )
 }
 
@@ -276,7 +304,7 @@ fn has_extension_value<F: Field, EF: ExtensionField<F> + Sample>(
     Ok(poly.eval_ext::<F>(alloc, point)? == plain::dot(weights, poly.as_slice()))
 }
 
-/// Whether the table of the next rows of the point is that of the moved weights.
+/// Whether the tables of the next rows of the point are those of the moved weights.
 fn has_next_weights<R: PrimeCharacteristicRing>(
     alloc: Global,
     point: &[R],
@@ -285,7 +313,10 @@ fn has_next_weights<R: PrimeCharacteristicRing>(
     requires { length point.now ≤ 10 }
 {
     let rows = Poly::new_next_from_point(alloc, point)?;
-    are_next(alloc, rows.as_slice(), weights)
+    let repeated = next_by(alloc, Successor::RepeatLast, weights)?;
+    let round = Poly::new_next_from_point_by(alloc, Successor::Wrap, point)?;
+    let wrapped = next_by(alloc, Successor::Wrap, weights)?;
+    Ok(rows.as_slice() == repeated.as_slice() && round.as_slice() == wrapped.as_slice())
 }
 
 /// Whether a polynomial is compressed at the point as the plain table says.

@@ -1,14 +1,33 @@
 //! Worked rows of weights that meet the next row.
+ghost use Rattle.std.specs.Prelude.{◌<◌, length};
 
 use super::rings::{Row, residues};
 use super::{point, table};
 use mlu_ring::{Additive, ExtensionField, Field};
 use mlu_test_support::numbers::{are, element, elements};
-use multilinear_util::point::Point;
+use multilinear_util::point::{Point, Successor};
 use multilinear_util::poly::Poly;
 use multilinear_util::split_eq::SplitEq;
 use std::alloc::{AllocError, Global};
 use std::test::Fail;
+
+/// Whether the successors of the rows of the point (2, 3) have these weights and this value at
+/// (5, 7), and the empty point has the weight 1.
+fn has_rows<F: Field, EF: ExtensionField<F>>(
+    alloc: Global,
+    rule: Successor,
+    weights: &[i32],
+    value: i32,
+) -> Result<bool, AllocError> {
+    let point: Vec<F> = elements(alloc, &[2, 3])?;
+    let rows = Poly::new_next_from_point_by(alloc, rule, &point)?;
+    let none = Poly::<F>::new_next_from_point_by(alloc, rule, &[])?;
+    Ok(
+        are(rows.as_slice(), weights)
+            && are(none.as_slice(), &[1])
+            && has_value::<F, EF>(alloc, &rows, value)?,
+    )
+}
 
 /// Whether the next rows of the point (2, 3) have these weights, their value at (5, 7) is 104, and
 /// the empty point has the weight 1.
@@ -17,24 +36,37 @@ pub fn has_next_rows<F: Field, EF: ExtensionField<F>>(alloc: Global) -> Result<b
     let rows = Poly::new_next_from_point(alloc, &point)?;
     let is_table = are(rows.as_slice(), &[0, 2, -3, 2]);
     let none = Poly::<F>::new_next_from_point(alloc, &[])?;
-    Ok(is_table && are(none.as_slice(), &[1]) && is_next_value::<F, EF>(alloc, &rows)?)
+    Ok(is_table && are(none.as_slice(), &[1]) && has_value::<F, EF>(alloc, &rows, 104)?)
 }
 
-/// Whether the value at (5, 7) is 104.
-fn is_next_value<F: Field, EF: ExtensionField<F>>(
+/// Whether this is the value at (5, 7).
+fn has_value<F: Field, EF: ExtensionField<F>>(
     alloc: Global,
     rows: &Poly<F>,
+    value: i32,
 ) -> Result<bool, AllocError> {
     let row = point::<EF>(alloc, &[5, 7])?;
     if rows.num_variables() != 2 {
         return Ok(false);
     }
-    Ok(rows.eval_base(alloc, &row)? == element(104))
+    Ok(rows.eval_base(alloc, &row)? == element(value))
+}
+
+/// Whether the successors of the rows of the point (2, 3) have these weights by each rule, their
+/// value at (5, 7) is 104, or 38 where the rows go round, and the empty point has the weight 1.
+pub fn has_rows_by_rule<F: Field, EF: ExtensionField<F>>(
+    alloc: Global,
+) -> Result<bool, AllocError> {
+    Ok(
+        has_rows::<F, EF>(alloc, Successor::RepeatLast, &[0, 2, -3, 2], 104)?
+            && has_rows::<F, EF>(alloc, Successor::Wrap, &[6, 2, -3, -4], 38)?,
+    )
 }
 
 #[test]
 fn next_rows_of_a_point(rt: HostRuntime) -> Result<(), Fail> {
     assert!(rt; residues::<4>(rt.alloc(), Row::NextRows)?);
+    assert!(rt; residues::<4>(rt.alloc(), Row::RowsByRule)?);
     Ok(())
 }
 
@@ -58,6 +90,44 @@ pub fn meets_scaled_rows<F: Field, EF: ExtensionField<F>>(
     Ok(meets(&scaled, &pair, 20, 10))
 }
 
+/// Whether 1, 2, 3, 4 meet the successors of the rows of the point (2, 3) by each rule, and 3, 4
+/// those of the point (2), times 5, as they must.
+pub fn meets_rows_by_rule<F: Field, EF: ExtensionField<F>>(
+    alloc: Global,
+) -> Result<bool, AllocError> {
+    let poly = table::<F>(alloc, &[1, 2, 3, 4])?;
+    let point = point::<EF>(alloc, &[2, 3])?;
+    let is_met = poly.eval_next_base_by(alloc, Successor::RepeatLast, &point)? == element(3)
+        && poly.eval_next_base_by(alloc, Successor::Wrap, &point)? == element(-15);
+    Ok(
+        is_met
+            && meets_by_rule::<F, EF>(alloc, &[2], &[3, 4], [20, 10])?
+            && meets_by_rule::<F, EF>(alloc, &[], &[7], [35, 35])?,
+    )
+}
+
+/// Whether the values meet the successors of the rows of the point, times 5, with the first sum
+/// where the last row repeats, and the second where the rows go round.
+fn meets_by_rule<F: Field, EF: ExtensionField<F>>(
+    alloc: Global,
+    coordinates: &[i32],
+    values: &[i32],
+    sums: [i32; 2],
+) -> Result<bool, AllocError>
+    requires { length coordinates.now < 64 }
+{
+    let poly = table::<F>(alloc, values)?;
+    let point = point::<EF>(alloc, coordinates)?;
+    let split = SplitEq::<F, EF>::new_packed(alloc, &point, element(5))?;
+    if split.num_variables() != poly.num_variables() {
+        return Ok(false);
+    }
+    Ok(
+        split.eval_next_base_by(Successor::RepeatLast, poly.as_view()) == element(sums[0])
+            && split.eval_next_base_by(Successor::Wrap, poly.as_view()) == element(sums[1]),
+    )
+}
+
 /// Whether the polynomial gives this sum at the next rows, where the table ends with this entry.
 fn meets<F: Field, EF: ExtensionField<F>>(
     split: &SplitEq<F, EF>,
@@ -75,6 +145,7 @@ fn meets<F: Field, EF: ExtensionField<F>>(
 fn values_at_the_next_rows(rt: HostRuntime) -> Result<(), Fail> {
     assert!(rt; residues::<4>(rt.alloc(), Row::ValuesAtTheNextRows)?);
     assert!(rt; residues::<4>(rt.alloc(), Row::ScaledNextRows)?);
+    assert!(rt; residues::<4>(rt.alloc(), Row::ValuesByRule)?);
     Ok(())
 }
 

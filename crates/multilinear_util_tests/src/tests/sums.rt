@@ -2,6 +2,7 @@
 
 use mlu_ring::{Additive, Algebra, PrimeCharacteristicRing};
 use mlu_test_support::plain;
+use multilinear_util::point::Successor;
 use std::alloc::{AllocError, Global};
 
 /// What a table gives with weights.
@@ -11,8 +12,10 @@ pub struct Sums<R> {
     pub value: R,
     /// Each entry times the weight before its own.
     pub steps: R,
-    /// The last entry times the last weight.
-    pub end: R,
+    /// Each entry times the weight before its own, and the last one times the last weight too.
+    pub repeated: R,
+    /// Each entry times the weight before its own, and the first one times the last weight.
+    pub wrapped: R,
 }
 
 /// The sums of a table in the ring of its weights.
@@ -25,7 +28,8 @@ fn sums_of<R: PrimeCharacteristicRing>(
     Ok(Sums {
         value: plain::dot(weights, entries),
         steps: plain::dot(&moved, entries),
-        end: plain::last(weights) * plain::last(entries),
+        repeated: plain::dot(&next_by(alloc, Successor::RepeatLast, weights)?, entries),
+        wrapped: plain::dot(&next_by(alloc, Successor::Wrap, weights)?, entries),
     })
 }
 
@@ -39,18 +43,17 @@ pub fn base_sums<F: Additive, A: Algebra<F>>(
     sums_of(alloc, weights, &images)
 }
 
-/// Whether these are the weights of the point, each moved to the next vertex, where the last one
-/// stays too.
-pub fn are_next<R: PrimeCharacteristicRing>(
+/// The weights, each moved to its successor.
+pub fn next_by<R: PrimeCharacteristicRing>(
     alloc: Global,
-    next: &[R],
+    rule: Successor,
     weights: &[R],
-) -> Result<bool, AllocError> {
-    let mut moved = plain::moved(alloc, weights)?;
-    if let Some(end) = moved.last_mut() {
-        *end = *end + plain::last(weights);
-    }
-    Ok(next == moved.as_slice())
+) -> Result<Vec<R>, AllocError> {
+    let end = match rule {
+        Successor::RepeatLast => weights.len().saturating_sub(1),
+        Successor::Wrap => 0,
+    };
+    plain::next(alloc, weights, end)
 }
 
 /// Whether these are the sums of a base table at its first variables.

@@ -1,5 +1,4 @@
 use Rattle.std.proofs.Common.{◌*◌, length, ap, ◌∙◌, refl}
-use Rattle.multilinear_util.specs.Split.{split_entries}
 use Rattle.multilinear_util.proofs.Splits.{halves-size}
 use Rattle.multilinear_util.proofs.split_eq.SplitEq.compress_suffix_into.Goals as goal
 

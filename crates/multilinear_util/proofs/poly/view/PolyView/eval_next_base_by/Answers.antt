@@ -3,7 +3,7 @@ use Rattle.multilinear_util.specs.Split.{split_entries}
 use Rattle.multilinear_util.specs.Views.{entries}
 use Rattle.multilinear_util.proofs.Splits.{half_fits}
 use Rattle.multilinear_util.proofs.Successors.{pair-next_unit}
-use Rattle.multilinear_util.proofs.poly.view.PolyView.eval_next_base.Goals as goal
+use Rattle.multilinear_util.proofs.poly.view.PolyView.eval_next_base_by.Goals as goal
 
 pub new_packed-requires : goal.new_packed-requires
 new_packed-requires g c =
@@ -12,6 +12,6 @@ new_packed-requires g c =
 
 pub returns : goal.returns
 returns g c =
-    c.eval_next_base.ensures
-    ∙ pair-next_unit g.EF.Additive.ring g.met.EF.Additive.laws c.ONE.result c.args.point.now (split_entries g.EF.Additive.ring c.in_ok-split.split) (map g.EF.Algebra.embed (entries c.args.self.now))
+    c.eval_next_base_by.ensures
+    ∙ pair-next_unit g.EF.Additive.ring g.met.EF.Additive.laws c.args.rule c.ONE.result c.args.point.now (split_entries g.EF.Additive.ring c.in_ok-split.split) (map g.EF.Algebra.embed (entries c.args.self.now))
     (c.ONE.ensures ∙ g.met.EF.Additive.one_is) c.in_ok-split.ensures.value
