@@ -1,0 +1,4 @@
+pub mod Rounds
+pub mod Folded
+pub mod Chains
+pub mod Caught

@@ -1,0 +1,47 @@
+//! The verifier: claims tested round by round.
+ghost use Rattle.std.specs.Prelude.{◌≡◌, ◌∷◌, [], length, MatchOption};
+ghost use Rattle.mlu_ring.specs.Tables.{univariate};
+ghost use Rattle.mlu_sumcheck.specs.Rounds.{AddsUpTo, FitFromTo};
+
+use mlu_ring::{Additive, PrimeCharacteristicRing};
+
+/// The value at `x` of the polynomial with these coefficients.
+#[inline]
+pub(crate) fn value_at<R: PrimeCharacteristicRing>(constant: R, linear: R, quadratic: R, x: R) -> R
+    ensures { result ≡ univariate R.ring (constant ∷ linear ∷ quadratic ∷ []) x }
+{
+    constant + x * (linear + x * quadratic)
+}
+
+/// The next claim, which is the round's value at the challenge `r`; `None` exactly where the round's
+/// values at 0 and 1 do not add up to the claim. Takes no memory.
+pub fn verify_round<EF: PrimeCharacteristicRing>(claim: EF, round: [EF; 3], r: EF) -> Option<EF>
+    ensures { MatchOption result (AddsUpTo EF.ring claim round → ⊥)
+        (λ next. AddsUpTo EF.ring claim round × (next ≡ univariate EF.ring round r)) }
+{
+    let [constant, linear, quadratic] = round;
+    if constant.double() + linear + quadratic != claim {
+        return None;
+    }
+    Some(value_at(constant, linear, quadratic, r))
+}
+
+/// The last claim, where claims from the given one on fit the rounds and the challenges; `None` exactly
+/// where there are no such claims. Takes no memory.
+///
+/// Asks for as many challenges as rounds.
+pub fn verify<EF: PrimeCharacteristicRing>(
+    mut claim: EF,
+    rounds: &[[EF; 3]],
+    challenges: &[EF],
+) -> Option<EF>
+    requires { length rounds.now ≡ length challenges.now }
+    ensures { MatchOption result ((last : EF) → FitFromTo EF.ring claim last rounds.now challenges.now → ⊥)
+        (λ last. FitFromTo EF.ring claim last rounds.now challenges.now) }
+{
+    for i in 0..rounds.len() {
+        let next = verify_round(claim, rounds[i], challenges[i])?;
+        claim = next;
+    }
+    Some(claim)
+}

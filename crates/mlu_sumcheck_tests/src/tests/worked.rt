@@ -1,0 +1,100 @@
+//! The values 1, 2, 3, 4 with the weights of the point (2, 3), at the challenges 5 and 7.
+ghost use Rattle.std.specs.Prelude.{◌≡◌, ◌*◌, ◌<◌, ◌^◌, IfOk, length};
+ghost use Rattle.std.specs.Mem.{type_size};
+
+use mlu_ring::{Additive, ExtensionField, Field, PrimeCharacteristicRing, SelfAlgebra};
+use mlu_sumcheck::{Transcript, bind, laws, prove_round, run, verify, verify_round};
+use mlu_test_support::numbers::{are, element, elements};
+use multilinear_util::point::Point;
+use multilinear_util::poly::Poly;
+use multilinear_util::split_eq::SplitEq;
+use std::alloc::{AllocError, Global};
+
+/// The polynomial with the images of four numbers as its values.
+fn poly<R: Additive>(alloc: Global, numbers: [i32; 4]) -> Result<Poly<R>, AllocError>
+    ensures { IfOk result (λ poly. length poly ≡ 4) }
+{
+    let evals: Vec<R> = elements(alloc, &numbers)?;
+    if !evals.len().is_power_of_two() {
+        return Err(AllocError);
+    }
+    Ok(Poly::new(evals))
+}
+
+/// The images of three numbers.
+fn round<R: Additive>(numbers: [i32; 3]) -> [R; 3] {
+    let [constant, linear, quadratic] = numbers;
+    [element(constant), element(linear), element(quadratic)]
+}
+
+/// Whether `run` gives both rounds and all three claims.
+pub fn gives_the_transcript<F: Field, EF: ExtensionField<F> + SelfAlgebra>(
+    alloc: Global,
+) -> Result<bool, AllocError>
+    requires two_rounds_fit { 6 * type_size EF.row < 2 ^ 63 }
+{
+    let poly = poly::<EF>(alloc, [1, 2, 3, 4])?;
+    let point = Point::new(elements::<EF>(alloc, &[2, 3])?);
+    let weights = SplitEq::<F, EF>::new_unpacked(alloc, &point, EF::ONE)?;
+    let challenges = elements::<EF>(alloc, &[5, 7])?;
+    let Transcript { rounds, claims } = run(alloc, &poly, &weights, challenges.as_slice())?;
+    let expected = [round([-4, 10, 6]), round([-308, 742, 70])];
+    Ok(are(claims.as_slice(), &[8, 196, 8316]) && rounds.as_slice() == expected.as_slice())
+}
+
+/// Whether the tables, the weights written out, give their first round, and are folded at 5.
+pub fn proves_and_binds<EF: SelfAlgebra>(alloc: Global) -> Result<bool, AllocError>
+    requires two_rounds_fit { 6 * type_size EF.row < 2 ^ 63 }
+{
+    let mut poly = poly::<EF>(alloc, [1, 2, 3, 4])?;
+    let mut weights = self::poly::<EF>(alloc, [2, -3, -4, 6])?;
+    let first = prove_round(&poly, &weights);
+    bind(&mut poly, &mut weights, element(5));
+    Ok(
+        first == round([-4, 10, 6])
+            && are(poly.as_slice(), &[11, 12])
+            && are(weights.as_slice(), &[-28, 42]),
+    )
+}
+
+/// Whether true claims pass and false ones do not, but for one that a false round makes up for.
+pub fn verifies<EF: PrimeCharacteristicRing>(alloc: Global) -> Result<bool, AllocError>
+    requires two_rounds_fit { 6 * type_size EF.row < 2 ^ 63 }
+{
+    let challenges = elements::<EF>(alloc, &[5, 7])?;
+    let challenges = challenges.as_slice();
+    let (first, second) = (round([-4, 10, 6]), round([-308, 742, 70]));
+    let rounds = [first, second];
+    let false_rounds = [round([1, -1, 8]), second];
+    let (eight, nine, five) = (element(8), element(9), element(5));
+    Ok(
+        verify_round(eight, first, five) == Some(element(196))
+            && verify_round(nine, first, five).is_none()
+            && verify(eight, &rounds, challenges) == Some(element(8316))
+            && verify(nine, &rounds, challenges).is_none()
+            && verify(nine, &false_rounds, challenges) == Some(element(8316)),
+    )
+}
+
+/// Whether the law can be named for what `run` gives.
+pub fn names_the_law<F: Field, EF: ExtensionField<F> + SelfAlgebra>(
+    alloc: Global,
+) -> Result<bool, AllocError>
+    requires two_rounds_fit { 6 * type_size EF.row < 2 ^ 63 }
+{
+    let poly = poly::<EF>(alloc, [1, 2, 3, 4])?;
+    let point = Point::new(elements::<EF>(alloc, &[2, 3])?);
+    let split = SplitEq::<F, EF>::new_packed(alloc, &point, EF::ONE)?;
+    let challenges = elements::<EF>(alloc, &[5, 7])?;
+    let challenges = challenges.as_slice();
+    let weights = split.materialize(alloc)?;
+    let Transcript { rounds, claims } = run(alloc, &poly, &split, challenges)?;
+    laws::caught(
+        poly.as_slice(),
+        weights.as_slice(),
+        claims.as_slice(),
+        rounds.as_slice(),
+        challenges,
+    );
+    Ok(are(claims.as_slice(), &[8, 196, 8316]))
+}
