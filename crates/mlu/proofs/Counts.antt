@@ -6,8 +6,9 @@ use Rattle.std.specs.Result.{IsErrAnd}
 use Rattle.std.proofs.lemmas.Nat.{pow_pos}
 use Rattle.mlu.specs.declared.fault.Fault.{Fault}
 use Rattle.mlu.specs.declared.fault.Fault.TheVariants.{Length, Memory}
+use Rattle.mlu.specs.Elements.{Element}
 use Rattle.mlu.specs.Words.{IsTextOf}
-use Rattle.mlu.specs.Operands.{IsTable, IsPointOf, HasVariable}
+use Rattle.mlu.specs.Operands.{AreThreeTexts, IsTable, IsTableOfPoints, IsPointOf, ArePointsOf, HasVariable}
 use Rattle.mlu.specs.Outcomes.{IsOutcome}
 
 -- what `ok_or` makes of None
@@ -57,3 +58,19 @@ module _ (table point : List ℕ) (entries variables coordinates : ℕ) (e : IsT
 
   pub IsPointOf-counted : variables ≡ coordinates → IsPointOf (e.0, p.0)
   IsPointOf-counted same = e.2 ∙ power ∙ ap (λ n. 2 ^ n) (same ∙ sym p.2)
+
+-- and two points beside a table
+module _ (table first second : List ℕ) (entries variables coordinates others : ℕ) (e : IsTextOf entries table) (p : IsTextOf coordinates first) (q : IsTextOf others second) where
+  pub not-IsTableOfPoints : (IsPowerOfTwo entries → ⊥) → IsTableOfPoints (e.0, p.0, q.0) → ⊥
+  not-IsTableOfPoints none long = none (long.0, sym e.2 ∙ long.1)
+
+  pub IsTableOfPoints-counted : entries ≡ 2 ^ variables → IsTableOfPoints (e.0, p.0, q.0)
+  IsTableOfPoints-counted power = (variables, e.2 ∙ power)
+
+  pub ArePointsOf-counted : entries ≡ 2 ^ variables → variables ≡ coordinates → variables ≡ others → ArePointsOf (e.0, p.0, q.0)
+  ArePointsOf-counted power one other =
+      (IsPointOf-counted table first entries variables coordinates e p power one, IsPointOf-counted table second entries variables others e q power other)
+
+  pub points-memory : {Y : Type 0} (G : List Element × List Element × List Element → Y → Type 0) (result : Result Y Fault) → IsErrAnd result (λ fault. fault ≡ Memory) → entries ≡ 2 ^ variables → variables ≡ coordinates → variables ≡ others → IsOutcome (AreThreeTexts table first second) IsTableOfPoints ArePointsOf G result
+  points-memory G result h power one other =
+      outcome-memory _ _ _ G result h (e.0, p.0, q.0) (e.1, p.1, q.1) (IsTableOfPoints-counted power) (ArePointsOf-counted power one other)

@@ -1,14 +1,15 @@
 -- The commands, and what the program answers to them.
-use Rattle.std.specs.Prelude.{◌≡◌, ◌≢◌, ℕ, ◌⊎◌, List, [], ◌∷◌, codes, replicate, Vec, Result, Err}
+use Rattle.std.specs.Prelude.{◌≡◌, ◌≢◌, ℕ, ◌⊎◌, List, [], ◌∷◌, ◌++◌, flat_map, codes, replicate, Vec, Result, Err}
 use Rattle.std.specs.declared.alloc.Global.{Global}
 use Rattle.mlu.specs.declared.fault.Fault.{Fault}
 use Rattle.mlu.specs.declared.fault.Fault.TheVariants.{Usage}
 use Rattle.mlu.specs.Elements.{Element, elements}
-use Rattle.mlu.specs.Operands.{IsText, AreTexts, AreTextAndDecimal, IsTable, IsPointOf, HasVariable, IsShort, StandsAlone}
+use Rattle.mlu.specs.Operands.{IsText, AreTexts, AreTextAndDecimal, AreThreeTexts, IsTable, IsTableOfPoints, IsPointOf, ArePointsOf, HasVariable, IsShort, StandsAlone}
 use Rattle.mlu.specs.Outcomes.{IsOutcome}
 use Rattle.mlu.specs.Words.{line_of, lines_of}
 use Rattle.mlu_ring.specs.Successor.{next}
 use Rattle.mlu_ring.specs.Tables.{value, pair, weights, lsb, line, front, back}
+use Rattle.mlu_sumcheck.specs.Rounds.{rounds_of}
 
 -- what is asked for, with the words of its operands
 pub data Command : Type 0 where
@@ -19,6 +20,7 @@ pub data Command : Type 0 where
   FoldFirst : List ℕ → List ℕ → Command
   FoldLast : List ℕ → List ℕ → Command
   Routes : List ℕ → List ℕ → Command
+  Sumcheck : List ℕ → List ℕ → List ℕ → Command
 
 -- the words that ask for it
 abbrev pub words_of : Command → List (List ℕ)
@@ -29,6 +31,7 @@ words_of (Lsb point) = codes "lsb" ∷ point ∷ []
 words_of (FoldFirst table number) = codes "fold-first" ∷ table ∷ number ∷ []
 words_of (FoldLast table number) = codes "fold-last" ∷ table ∷ number ∷ []
 words_of (Routes table point) = codes "routes" ∷ table ∷ point ∷ []
+words_of (Sumcheck table point challenges) = codes "sumcheck" ∷ table ∷ point ∷ challenges ∷ []
 
 -- the bytes are the line of the list that stands for the operands
 abbrev pub Prints : {X : Type 0} → (X → List Element) → X → Vec ℕ Global → Type 0
@@ -37,6 +40,14 @@ Prints list x bytes = bytes.items ≡ line_of (list x)
 -- the bytes are that line for each of the four routes
 abbrev pub PrintsFour : {X : Type 0} → (X → Element) → X → Vec ℕ Global → Type 0
 PrintsFour element x bytes = bytes.items ≡ lines_of (replicate 4 (element x))
+
+-- the last claim of sumcheck: the product of the values at the challenges, of the weights at the point and of the table
+abbrev pub last_claim : List Element → List Element → List Element → Element
+last_claim e p challenges = elements.product (value elements (weights elements p) challenges) (value elements e challenges)
+
+-- the bytes are a line for each round of the table and the point's weights, and one for the last claim
+abbrev pub PrintsProof : List Element × List Element × List Element → Vec ℕ Global → Type 0
+PrintsProof x bytes = bytes.items ≡ flat_map line_of (rounds_of elements (weights elements x.1) x.0 x.2) ++ line_of (last_claim x.0 x.1 x.2 ∷ [])
 
 -- what the command comes to
 abbrev pub Answers : Command → Result (Vec ℕ Global) Fault → Type 0
@@ -47,6 +58,7 @@ Answers (Lsb point) = IsOutcome (IsText point) IsShort StandsAlone (Prints (lsb 
 Answers (FoldFirst table number) = IsOutcome (AreTextAndDecimal table number) IsTable HasVariable (Prints (λ x. front elements (line elements x.1) x.0))
 Answers (FoldLast table number) = IsOutcome (AreTextAndDecimal table number) IsTable HasVariable (Prints (λ x. back elements (line elements x.1) x.0))
 Answers (Routes table point) = IsOutcome (AreTexts table point) IsTable IsPointOf (PrintsFour (λ x. value elements x.0 x.1))
+Answers (Sumcheck table point challenges) = IsOutcome (AreThreeTexts table point challenges) IsTableOfPoints ArePointsOf PrintsProof
 
 -- the answer to the words: that of the command that they ask for, or the fault that they ask for none
 abbrev pub AnswersWords : List (List ℕ) → Result (Vec ℕ Global) Fault → Type 0

@@ -1,12 +1,13 @@
 //! What the program answers to its words.
 ghost use Rattle.std.specs.Prelude.{map, string_bytes};
-ghost use Rattle.mlu.specs.Commands.{Eval, Next, Msb, Lsb, FoldFirst, FoldLast, Routes, Answers, AnswersWords};
+ghost use Rattle.mlu.specs.Commands.{Eval, Next, Msb, Lsb, FoldFirst, FoldLast, Routes, Sumcheck, Answers, AnswersWords};
 
 use crate::element::Element;
 use crate::fault::Fault;
-use crate::operands::{short_point, table_and_number, table_and_point};
+use crate::operands::{short_point, table_and_number, table_and_point, table_and_points};
+use crate::proof::proof;
 use crate::routes::{by_lanes, by_scalars, packed};
-use crate::words::{line, lines};
+use crate::words::{line, lines, proof_lines};
 use std::alloc::Global;
 
 /// The value of a table at a point.
@@ -83,6 +84,16 @@ fn routes(alloc: Global, table: &str, point: &str) -> Result<Vec<u8>, Fault>
     Ok(lines)
 }
 
+/// The rounds of sumcheck over a table and the weights of a point, a line each, and the last claim.
+fn sumcheck(alloc: Global, table: &str, point: &str, challenges: &str) -> Result<Vec<u8>, Fault>
+    ensures { Answers (Sumcheck table.now point.now challenges.now) result }
+{
+    let (table, point, challenges) = table_and_points(alloc, table, point, challenges)?;
+    let (rounds, last) = proof::<Element, Element>(alloc, &table, &point, challenges.as_slice())?;
+    let lines = proof_lines(alloc, rounds, last)?;
+    Ok(lines)
+}
+
 /// The line that answers the words after the program's name, or the first of their faults.
 ///
 /// # Errors
@@ -102,6 +113,10 @@ pub fn answer(alloc: Global, words: &[String]) -> Result<Vec<u8>, Fault>
             "fold-first" => fold_first(alloc, table.as_str(), operand.as_str()),
             "fold-last" => fold_last(alloc, table.as_str(), operand.as_str()),
             "routes" => routes(alloc, table.as_str(), operand.as_str()),
+            _ => Err(Fault::Usage),
+        },
+        [name, table, point, challenges] => match name.as_str() {
+            "sumcheck" => sumcheck(alloc, table.as_str(), point.as_str(), challenges.as_str()),
             _ => Err(Fault::Usage),
         },
         _ => Err(Fault::Usage),

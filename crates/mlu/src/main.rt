@@ -5,7 +5,8 @@
 //! its contract says which, in the definitions of mlu_ring. The faults of the words are tested
 //! before any memory is asked for.
 //!
-//! Stands on mlu_lanes for the elements, and on multilinear_util for points and polynomials.
+//! Stands on mlu_lanes for the elements, on multilinear_util for points and polynomials, and on
+//! mlu_sumcheck.
 #![tactic(auto)]
 
 ghost use Rattle.std.specs.Prelude.{◌≡◌, Err, OnErr, IfOk, map, string_bytes};
@@ -16,6 +17,7 @@ mod element;
 mod emit;
 mod fault;
 mod operands;
+mod proof;
 mod routes;
 mod words;
 

@@ -2,7 +2,7 @@
 //! that a fault of theirs is named whatever memory does.
 ghost use Rattle.std.specs.Prelude.{◌≡◌, ◌^◌, MatchOption};
 ghost use Rattle.std.specs.Int.{IsPowerOfTwo};
-ghost use Rattle.mlu.specs.Operands.{IsText, AreTexts, AreTextAndDecimal, IsTable, IsPointOf, HasVariable, IsShort, StandsAlone};
+ghost use Rattle.mlu.specs.Operands.{IsText, AreTexts, AreTextAndDecimal, AreThreeTexts, IsTable, IsTableOfPoints, IsPointOf, ArePointsOf, HasVariable, IsShort, StandsAlone};
 ghost use Rattle.mlu.specs.Outcomes.{IsOutcome};
 
 use crate::element::Element;
@@ -45,6 +45,35 @@ pub fn table_and_point(
     let table = read(alloc, table, entries)?;
     let point = read(alloc, point, coordinates)?;
     Ok((Poly::new(table), Point::new(point)))
+}
+
+/// A table, and two points with as many coordinates as the table has variables.
+///
+/// # Errors
+/// The first fault: a word that is no text of a list, no power of two of entries, another number of
+/// coordinates, want of memory.
+pub fn table_and_points(
+    alloc: Global,
+    table: &str,
+    first: &str,
+    second: &str,
+) -> Result<(Poly<Element>, Point<Element>, Point<Element>), Fault>
+    ensures { IsOutcome (AreThreeTexts table.now first.now second.now) IsTableOfPoints ArePointsOf (λ x all. all ≡ x) result }
+{
+    let entries = count(table).ok_or(Fault::Number)?;
+    let coordinates = count(first).ok_or(Fault::Number)?;
+    let others = count(second).ok_or(Fault::Number)?;
+    let variables = variables(entries).ok_or(Fault::Length)?;
+    if variables != coordinates {
+        return Err(Fault::Arity);
+    }
+    if variables != others {
+        return Err(Fault::Arity);
+    }
+    let table = read(alloc, table, entries)?;
+    let first = read(alloc, first, coordinates)?;
+    let second = read(alloc, second, others)?;
+    Ok((Poly::new(table), Point::new(first), Point::new(second)))
 }
 
 /// A table that has a variable, and a number to put it at.

@@ -1,5 +1,5 @@
 //! Lists of elements as words: read from them, and written as a line.
-ghost use Rattle.std.specs.Prelude.{◌≡◌, length, MatchOption, IfOk, IsTrue, ◌↔◌};
+ghost use Rattle.std.specs.Prelude.{◌≡◌, ◌++◌, ◌∷◌, [], flat_map, length, MatchOption, IfOk, IsTrue, ◌↔◌};
 ghost use Rattle.mlu.specs.Words.{text, line_of, lines_of, decimal_of, IsTextOf, IsNoList, IsNoDecimal, HasPlainStart};
 
 use crate::element::Element;
@@ -99,4 +99,25 @@ pub fn lines(alloc: Global, elements: &[Element]) -> Result<Vec<u8>, AllocError>
         writeln!(text, "{value}")?;
     }
     Ok(text.into_bytes())
+}
+
+/// A line for each round, and one for the last claim.
+///
+/// # Errors
+/// Where memory is refused.
+pub fn proof_lines(
+    alloc: Global,
+    rounds: Vec<[Element; 3]>,
+    last: Element,
+) -> Result<Vec<u8>, AllocError>
+    ensures { IfOk result (λ bytes. bytes.items ≡ flat_map line_of rounds.items ++ line_of (last ∷ [])) }
+{
+    let mut bytes = Vec::new(alloc);
+    for round in rounds {
+        let line = line(alloc, &round)?;
+        bytes.extend_from_slice(&line)?;
+    }
+    let line = line(alloc, &[last])?;
+    bytes.extend_from_slice(&line)?;
+    Ok(bytes)
 }
