@@ -99,7 +99,7 @@ fn base_batch_in_chunks<F: Field, EF: ExtensionField<F>>(
     Ok(written(done, out.as_slice(), &after, &[1; 32]))
 }
 
-/// Takes no memory.
+/// Does not fail.
 fn no_points<F: Field, EF: ExtensionField<F>>(alloc: Global) -> Result<Outcome, AllocError> {
     let mut out: Vec<EF> = elements(alloc, &[9, 9, 9])?;
     let none: RowMajorMatrixView<'_, EF> = RowMajorMatrixView::new(&[], 0);
@@ -160,6 +160,6 @@ fn eval_eq_base_batch_in_chunks_added(rt: HostRuntime) -> Result<(), Fail> {
 }
 
 #[test]
-fn no_points_take_no_memory(rt: HostRuntime) {
+fn no_points_do_not_fail(rt: HostRuntime) {
     assert!(rt; is_served(residues(rt.alloc(), AnyCall::Batch(Call::NoPoints))));
 }

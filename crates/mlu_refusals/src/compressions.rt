@@ -61,7 +61,7 @@ fn prefix_to_packed<F: Field, EF: ExtensionField<F>>(
 }
 
 /// Whether the lanes are the images of the numbers.
-fn has_lanes<F: Field, EF: ExtensionField<F>>(
+pub fn has_lanes<F: Field, EF: ExtensionField<F>>(
     packed: &[EF::ExtensionPacking],
     numbers: &[i32],
 ) -> bool {

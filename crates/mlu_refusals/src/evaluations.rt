@@ -1,4 +1,4 @@
-//! Evaluations below the threshold, which take no memory, and from it on.
+//! Evaluations below the threshold, which do not fail, and from it on.
 ghost use Rattle.std.specs.Prelude.{◌≡◌, length, IfOk};
 
 use crate::outcome::{Outcome, is_served, judge};
@@ -16,6 +16,7 @@ pub enum Call {
     EvalBase,
     EvalExt,
     EvalStorage,
+    EvalStorageView,
     CloneStorage,
 }
 
@@ -29,6 +30,7 @@ pub fn made<F: Field, EF: ExtensionField<F>>(
         Call::EvalBase => eval_base::<F, EF>(alloc),
         Call::EvalExt => eval_ext::<F, EF>(alloc),
         Call::EvalStorage => eval_storage::<F, EF>(alloc),
+        Call::EvalStorageView => eval_storage_view::<F, EF>(alloc),
         Call::CloneStorage => clone_storage::<F, EF>(alloc),
     }
 }
@@ -64,7 +66,7 @@ fn valued<R: Additive>(answer: Result<R, AllocError>, number: i32) -> Outcome {
     }
 }
 
-/// Takes no memory.
+/// Does not fail.
 fn below<F: Field, EF: ExtensionField<F>>(alloc: Global) -> Result<Outcome, AllocError> {
     let point: Point<EF> = Point::new(elements(alloc, &[2; 8])?);
     let base = counted::<F>(alloc, 256)?;
@@ -93,6 +95,14 @@ fn eval_storage<F: Field, EF: ExtensionField<F>>(alloc: Global) -> Result<Outcom
     Ok(valued(storage.eval(alloc, &point), 1022))
 }
 
+fn eval_storage_view<F: Field, EF: ExtensionField<F>>(
+    alloc: Global,
+) -> Result<Outcome, AllocError> {
+    let storage: PolyMaybePacked<F, EF> = PolyMaybePacked::Scalar(counted::<EF>(alloc, 512)?);
+    let point = long_point::<EF>(alloc)?;
+    Ok(valued(storage.as_view().eval(alloc, &point), 1022))
+}
+
 fn clone_storage<F: Field, EF: ExtensionField<F>>(alloc: Global) -> Result<Outcome, AllocError> {
     let storage: PolyMaybePacked<F, EF> = PolyMaybePacked::Scalar(counted::<EF>(alloc, 512)?);
     Ok(match storage.try_clone(alloc) {
@@ -117,6 +127,15 @@ fn value_of_storage(rt: HostRuntime) -> Result<(), Fail> {
         &rt,
         "PolyMaybePacked::eval",
         AnyCall::Evaluation(Call::EvalStorage),
+    )
+}
+
+#[test]
+fn value_of_borrowed_storage(rt: HostRuntime) -> Result<(), Fail> {
+    tried(
+        &rt,
+        "PolyMaybePackedView::eval",
+        AnyCall::Evaluation(Call::EvalStorageView),
     )
 }
 

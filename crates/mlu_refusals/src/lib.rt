@@ -31,8 +31,14 @@ mod polys;
 #[cfg(test)]
 mod residues;
 #[cfg(test)]
+mod runs;
+#[cfg(test)]
 mod splits;
 #[cfg(test)]
 mod successors;
+#[cfg(test)]
+mod sumchecks;
+#[cfg(test)]
+mod unfailing;
 #[cfg(test)]
 mod views;

@@ -39,7 +39,12 @@ pub fn written<R: Additive>(
     }
 }
 
-/// Whether a call that takes no memory was served. A set-up may have been refused.
+/// Whether the call or its set-up was refused.
+pub fn is_refused(made: &Result<Outcome, AllocError>) -> bool {
+    matches!(made, Ok(Outcome::Refused) | Err(_))
+}
+
+/// Whether a call that does not fail was served. A set-up may have been refused.
 pub fn is_served(made: Result<Outcome, AllocError>) -> bool {
     matches!(made, Ok(Outcome::Served) | Err(_))
 }

@@ -23,6 +23,7 @@ pub enum Call {
     FixPrefixVar,
     FixPrefixVarToPacked,
     FixSuffixVar,
+    FixSuffixVarOfView,
     FixSuffixVarMutSplit,
 }
 
@@ -45,6 +46,7 @@ pub fn made<F: Field + Sample, EF: ExtensionField<F>>(
         Call::FixPrefixVar => fix_prefix_var::<F, EF>(alloc, &poly),
         Call::FixPrefixVarToPacked => fix_prefix_var_to_packed::<F, EF>(alloc, &poly),
         Call::FixSuffixVar => fix_suffix_var::<F, EF>(alloc, &poly),
+        Call::FixSuffixVarOfView => fix_suffix_var_of_view::<F, EF>(alloc, &poly),
         Call::FixSuffixVarMutSplit => return fix_suffix_var_mut_split::<F, EF>(alloc),
     };
     Ok(judge(answered, is_poly(poly.as_slice())))
@@ -137,6 +139,18 @@ fn fix_suffix_var<F: PrimeCharacteristicRing, EF: Algebra<F>>(
     requires { length poly.now ≡ 8 }
 {
     Ok(are(
+        poly.fix_suffix_var(alloc, EF::TWO)?.as_slice(),
+        &[3, 5, 7, 9],
+    ))
+}
+
+fn fix_suffix_var_of_view<F: PrimeCharacteristicRing, EF: Algebra<F>>(
+    alloc: Global,
+    poly: &Poly<F>,
+) -> Result<bool, AllocError>
+    requires { length poly.now ≡ 8 }
+{
+    Ok(are(
         poly.as_view().fix_suffix_var(alloc, EF::TWO)?.as_slice(),
         &[3, 5, 7, 9],
     ))
@@ -216,8 +230,17 @@ fn prefix_folded_to_packed(rt: HostRuntime) -> Result<(), Fail> {
 fn suffix_folded(rt: HostRuntime) -> Result<(), Fail> {
     tried(
         &rt,
-        "PolyView::fix_suffix_var",
+        "Poly::fix_suffix_var",
         AnyCall::Poly(Call::FixSuffixVar),
+    )
+}
+
+#[test]
+fn suffix_of_a_view_folded(rt: HostRuntime) -> Result<(), Fail> {
+    tried(
+        &rt,
+        "PolyView::fix_suffix_var",
+        AnyCall::Poly(Call::FixSuffixVarOfView),
     )
 }
 

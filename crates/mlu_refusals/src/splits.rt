@@ -3,11 +3,11 @@ ghost use Rattle.std.specs.Prelude.{◌≡◌, ◌*◌, length, IfOk};
 ghost use Rattle.multilinear_util.specs.Split.{split_entries};
 ghost use Rattle.multilinear_util.specs.Views.{entries};
 
-use crate::given::{is_poly, packed, point, poly};
+use crate::given::{is_poly, packed, point, poly, short_point};
 use crate::outcome::{Outcome, judge};
 use crate::residues::{Call as AnyCall, tried};
 use mlu_point::point::Point;
-use mlu_ring::{ExtensionField, Field, PackedFieldExtension, PrimeCharacteristicRing};
+use mlu_ring::{ExtensionField, Field, MapFrom, PackedFieldExtension, PrimeCharacteristicRing};
 use mlu_test_support::numbers::{are, element, elements};
 use multilinear_util::poly::{Poly, PolyView};
 use multilinear_util::split_eq::SplitEq;
@@ -19,6 +19,7 @@ pub enum Call {
     NewUnpacked,
     NewPacked,
     AccumulateIntoPacked,
+    CompressPrefixToPacked,
     EvalPacked,
     Beside(PolyCall),
 }
@@ -27,6 +28,7 @@ pub enum Call {
 #[derive(Clone, Copy)]
 pub enum PolyCall {
     TryClone,
+    CloneHalf,
     Materialize,
     CompressPrefix,
     CompressSuffix,
@@ -44,6 +46,7 @@ pub fn made<F: Field, EF: ExtensionField<F>>(
         Call::NewUnpacked => Ok(judge(new_unpacked::<F, EF>(alloc, &point), true)),
         Call::NewPacked => Ok(judge(new_packed::<F, EF>(alloc, &point), true)),
         Call::AccumulateIntoPacked => accumulate_into_packed::<F, EF>(alloc, &point),
+        Call::CompressPrefixToPacked => prefix_to_packed::<F, EF>(alloc),
         Call::EvalPacked => eval_packed::<F, EF>(alloc, &point),
         Call::Beside(call) => beside_a_poly::<F, EF>(alloc, call, &point),
     }
@@ -68,7 +71,7 @@ fn new_packed<F: Field, EF: ExtensionField<F>>(
 }
 
 /// The table of a point of three coordinates, with scalars in both halves.
-fn split<F: Field, EF: ExtensionField<F>>(
+pub fn split<F: Field, EF: ExtensionField<F>>(
     alloc: Global,
     point: &Point<EF>,
 ) -> Result<SplitEq<F, EF>, AllocError>
@@ -143,6 +146,7 @@ fn beside_a_poly<F: Field, EF: ExtensionField<F>>(
     let split = split::<F, EF>(alloc, point)?;
     let answered = match call {
         PolyCall::TryClone => try_clone(alloc, &split),
+        PolyCall::CloneHalf => clone_half(alloc, &split),
         PolyCall::Materialize => materialize(alloc, &split),
         PolyCall::CompressPrefix => compress_prefix(alloc, &split, poly.as_view()),
         PolyCall::CompressSuffix => compress_suffix(alloc, &split, poly.as_view()),
@@ -156,6 +160,31 @@ fn try_clone<F: Field, EF: ExtensionField<F>>(
     split: &SplitEq<F, EF>,
 ) -> Result<bool, AllocError> {
     Ok(split.try_clone(alloc)?.num_variables() == 3)
+}
+
+fn clone_half<F: Field, EF: ExtensionField<F>>(
+    alloc: Global,
+    split: &SplitEq<F, EF>,
+) -> Result<bool, AllocError> {
+    Ok(split.eq1().try_clone(alloc)?.last_scalar() == element(15))
+}
+
+/// A conversion, with its table.
+pub fn converted<F: Field, EF: ExtensionField<F>, R: ExtensionField<R> + MapFrom<EF>>(
+    alloc: Global,
+) -> Result<Outcome, AllocError> {
+    let point = point::<EF>(alloc)?;
+    let mut zeros = EF::zero_vec(alloc, 8)?;
+    let split = split::<F, EF>(alloc, &point)?;
+    let answered = to_field::<F, EF, R>(alloc, &split);
+    Ok(judge(answered, has_weights(&split, zeros.as_mut_slice())))
+}
+
+fn to_field<F: Field, EF: ExtensionField<F>, R: ExtensionField<R> + MapFrom<EF>>(
+    alloc: Global,
+    split: &SplitEq<F, EF>,
+) -> Result<bool, AllocError> {
+    Ok(split.to_field::<R>(alloc)?.last_scalar() == element(30))
 }
 
 fn materialize<F: Field, EF: ExtensionField<F>>(
@@ -176,6 +205,30 @@ fn compress_prefix<F: Field, EF: ExtensionField<F>>(
     requires { length (split_entries EF.ring split.now) ≡ length (entries poly) }
 {
     Ok(are(split.compress_prefix(alloc, poly)?.as_slice(), &[20]))
+}
+
+fn prefix_to_packed<F: Field, EF: ExtensionField<F>>(alloc: Global) -> Result<Outcome, AllocError>
+    requires { F.Packing.WIDTH ≡ 4 }
+{
+    let poly = poly::<F>(alloc)?;
+    let point = short_point::<EF>(alloc)?;
+    let split = SplitEq::<F, EF>::new_unpacked(alloc, &point, EF::ONE)?;
+    let answered = compress_prefix_to_packed::<F, EF>(alloc, &split, poly.as_view());
+    Ok(judge(answered, is_poly(poly.as_slice())))
+}
+
+fn compress_prefix_to_packed<F: Field, EF: ExtensionField<F>>(
+    alloc: Global,
+    split: &SplitEq<F, EF>,
+    poly: PolyView<'_, F>,
+) -> Result<bool, AllocError>
+    requires lanes { F.Packing.WIDTH ≡ 4 }
+    requires split { length (split_entries EF.ring split.now) ≡ 2 }
+    requires poly { length (entries poly) ≡ 8 }
+{
+    let left = split.compress_prefix_to_packed(alloc, poly)?;
+    let last = EF::ExtensionPacking::to_ext_iter(left.as_slice()).last();
+    Ok(last == Some(element(12)))
 }
 
 fn compress_suffix<F: Field, EF: ExtensionField<F>>(
@@ -212,6 +265,20 @@ fn copied_split(rt: HostRuntime) -> Result<(), Fail> {
 }
 
 #[test]
+fn copied_half(rt: HostRuntime) -> Result<(), Fail> {
+    tried(
+        &rt,
+        "EqMaybePacked::try_clone",
+        AnyCall::Split(Call::Beside(PolyCall::CloneHalf)),
+    )
+}
+
+#[test]
+fn converted_split(rt: HostRuntime) -> Result<(), Fail> {
+    tried(&rt, "SplitEq::to_field", AnyCall::ToField)
+}
+
+#[test]
 fn whole_table(rt: HostRuntime) -> Result<(), Fail> {
     tried(
         &rt,
@@ -244,6 +311,15 @@ fn prefix_compressed(rt: HostRuntime) -> Result<(), Fail> {
         &rt,
         "SplitEq::compress_prefix",
         AnyCall::Split(Call::Beside(PolyCall::CompressPrefix)),
+    )
+}
+
+#[test]
+fn prefix_compressed_to_lanes(rt: HostRuntime) -> Result<(), Fail> {
+    tried(
+        &rt,
+        "SplitEq::compress_prefix_to_packed",
+        AnyCall::Split(Call::CompressPrefixToPacked),
     )
 }
 

@@ -6,7 +6,7 @@ ghost use Rattle.multilinear_util.specs.Views.{entries};
 use crate::given::{is_poly, point, poly, short_point};
 use crate::outcome::{Outcome, judge};
 use crate::residues::{Call as AnyCall, tried};
-use mlu_point::point::Point;
+use mlu_point::point::{Point, Successor};
 use mlu_ring::{ExtensionField, Field, PrimeCharacteristicRing};
 use mlu_test_support::numbers::{are, element};
 use multilinear_util::poly::{Poly, PolyView};
@@ -17,7 +17,9 @@ use std::test::Fail;
 #[derive(Clone, Copy)]
 pub enum Call {
     NewNextFromPoint,
+    NewNextFromPointBy,
     EvalNextBase,
+    EvalNextBaseBy,
     CompressPrefixShifted,
     CompressSuffixShifted,
 }
@@ -30,7 +32,9 @@ pub fn made<F: Field, EF: ExtensionField<F>>(
     let poly = poly::<F>(alloc)?;
     let answered = match call {
         Call::NewNextFromPoint => next_from_point(alloc, poly.as_slice()),
+        Call::NewNextFromPointBy => next_from_point_by(alloc, poly.as_slice()),
         Call::EvalNextBase => eval_next_base::<F, EF>(alloc, &poly, &point(alloc)?),
+        Call::EvalNextBaseBy => eval_next_base_by::<F, EF>(alloc, &poly, &point(alloc)?),
         Call::CompressPrefixShifted => {
             compress_prefix_shifted::<F, EF>(alloc, &split(alloc)?, poly.as_view())
         }
@@ -60,6 +64,17 @@ fn next_from_point<R: PrimeCharacteristicRing>(
     Ok(are(rows.as_slice(), &[0, 2, -3, 2]))
 }
 
+/// At the point (2, 3), where the rows go round.
+fn next_from_point_by<R: PrimeCharacteristicRing>(
+    alloc: Global,
+    numbers: &[R],
+) -> Result<bool, AllocError>
+    requires { length numbers.now ≡ 8 }
+{
+    let rows = Poly::new_next_from_point_by(alloc, Successor::Wrap, &numbers[1..3])?;
+    Ok(are(rows.as_slice(), &[6, 2, -3, -4]))
+}
+
 fn eval_next_base<F: Field, EF: ExtensionField<F>>(
     alloc: Global,
     poly: &Poly<F>,
@@ -69,6 +84,18 @@ fn eval_next_base<F: Field, EF: ExtensionField<F>>(
     requires point { length point.now ≡ 3 }
 {
     Ok(poly.eval_next_base(alloc, point)? == element(-9))
+}
+
+/// Where the rows go round.
+fn eval_next_base_by<F: Field, EF: ExtensionField<F>>(
+    alloc: Global,
+    poly: &Poly<F>,
+    point: &Point<EF>,
+) -> Result<bool, AllocError>
+    requires poly { length poly.now ≡ 8 }
+    requires point { length point.now ≡ 3 }
+{
+    Ok(poly.eval_next_base_by(alloc, Successor::Wrap, point)? == element(-219))
 }
 
 fn compress_prefix_shifted<F: Field, EF: ExtensionField<F>>(
@@ -110,6 +137,24 @@ fn eval_next_base_of_a_poly(rt: HostRuntime) -> Result<(), Fail> {
         &rt,
         "Poly::eval_next_base",
         AnyCall::Successor(Call::EvalNextBase),
+    )
+}
+
+#[test]
+fn new_next_from_point_by(rt: HostRuntime) -> Result<(), Fail> {
+    tried(
+        &rt,
+        "Poly::new_next_from_point_by",
+        AnyCall::Successor(Call::NewNextFromPointBy),
+    )
+}
+
+#[test]
+fn eval_next_base_by_of_a_poly(rt: HostRuntime) -> Result<(), Fail> {
+    tried(
+        &rt,
+        "Poly::eval_next_base_by",
+        AnyCall::Successor(Call::EvalNextBaseBy),
     )
 }
 

@@ -1,0 +1,48 @@
+//! The proof of sumcheck over the polynomial with the values 1, 2, .., 8 and the table of the point
+//! (2, 3, 5), at that point.
+ghost use Rattle.std.specs.Prelude.{◌≡◌, length};
+ghost use Rattle.multilinear_util.specs.Split.{split_entries};
+
+use crate::given::{is_point, is_poly, point, poly};
+use crate::outcome::{Outcome, judge};
+use crate::residues::{Call as AnyCall, tried};
+use crate::splits::split;
+use mlu_ring::{ExtensionField, Field, SelfAlgebra};
+use mlu_sumcheck::run;
+use mlu_test_support::numbers::element;
+use multilinear_util::poly::Poly;
+use multilinear_util::split_eq::SplitEq;
+use std::alloc::{AllocError, Global};
+use std::test::Fail;
+
+/// What becomes of the proof. Fails where its inputs are refused.
+pub fn made<F: Field, EF: ExtensionField<F> + SelfAlgebra>(
+    alloc: Global,
+) -> Result<Outcome, AllocError> {
+    let poly = poly::<EF>(alloc)?;
+    let point = point::<EF>(alloc)?;
+    let weights = split::<F, EF>(alloc, &point)?;
+    let answered = proved(alloc, &poly, &weights, point.as_slice());
+    Ok(judge(answered, is_poly(poly.as_slice()) && is_point(&point)))
+}
+
+/// Whether the claims begin with the value 20 and end with 20 times the weight (4 + 1) (9 + 4) (25 + 16).
+fn proved<F: Field, EF: ExtensionField<F> + SelfAlgebra>(
+    alloc: Global,
+    poly: &Poly<EF>,
+    weights: &SplitEq<F, EF>,
+    challenges: &[EF],
+) -> Result<bool, AllocError>
+    requires poly { length poly.now ≡ 8 }
+    requires weights { length (split_entries EF.ring weights.now) ≡ 8 }
+    requires challenges { length challenges.now ≡ 3 }
+{
+    let transcript = run(alloc, poly, weights, challenges)?;
+    let claims = transcript.claims.as_slice();
+    Ok(claims.first() == Some(&element(20)) && claims.last() == Some(&element(53300)))
+}
+
+#[test]
+fn sumcheck_run(rt: HostRuntime) -> Result<(), Fail> {
+    tried(&rt, "mlu_sumcheck::run", AnyCall::Sumcheck)
+}

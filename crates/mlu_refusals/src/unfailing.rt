@@ -1,0 +1,136 @@
+//! Calls that ask for no memory, so that they do not fail whichever allocation is refused.
+ghost use Rattle.std.specs.Prelude.{◌≡◌, length};
+
+use crate::given::{is_poly, point, poly};
+use crate::outcome::{Outcome, is_served, judge, written};
+use crate::residues::{Call as AnyCall, residues};
+use mlu_point::point::{BitOrder, Point, PointView};
+use mlu_ring::{
+    Additive, ExtensionField, Field, PackedFieldExtension, PrimeCharacteristicRing, Sample,
+    Unmetered,
+};
+use mlu_test_support::numbers::{are, element, elements};
+use multilinear_util::poly::{PolyMaybePacked, PolyView};
+use multilinear_util::split_eq::SplitEq;
+use rand_core::SeedableRng;
+use rand_pcg::Pcg32;
+use std::alloc::{AllocError, Global};
+use std::slice;
+
+#[derive(Clone, Copy)]
+pub enum Call {
+    EmptyPoint,
+    WholeChunk,
+    SizeThatIsThere,
+    Scalars,
+    SplitInLanes,
+}
+
+/// What becomes of the call. Fails where its inputs are refused.
+pub fn made<F: Field + Sample, EF: ExtensionField<F>>(
+    alloc: Global,
+    call: Call,
+) -> Result<Outcome, AllocError>
+    requires { F.Packing.WIDTH ≡ 4 }
+{
+    match call {
+        Call::EmptyPoint => Ok(empty_point::<F>(alloc)),
+        Call::WholeChunk => whole_chunk::<F>(alloc),
+        Call::SizeThatIsThere => size_that_is_there::<F>(alloc),
+        Call::Scalars => scalars::<F, EF>(alloc),
+        Call::SplitInLanes => split_in_lanes::<F, EF>(alloc),
+    }
+}
+
+/// All calls that make or copy a point of no coordinates.
+fn empty_point<F: Field + Sample>(alloc: Global) -> Outcome {
+    let mut point: Point<F> = Point::empty(alloc);
+    let mut rng = Pcg32::seed_from_u64(1);
+    let copied = point.try_clone(alloc).is_ok()
+        && point.reversed(alloc).is_ok()
+        && point.split_at(alloc, 0).is_ok()
+        && point.get_subpoint_over_range(alloc, 0..0).is_ok();
+    let made = Point::<F>::hypercube(alloc, 0, 0).is_ok()
+        && Point::<F>::rand(alloc, &mut rng, 0).is_ok()
+        && Point::transpose(alloc, slice::from_ref(&point), false).is_ok();
+    let extended = point.extend(PointView::default()).is_ok();
+    judge(Ok(copied && made && extended), point.num_variables() == 0)
+}
+
+/// A table in one chunk.
+fn whole_chunk<F: Field>(alloc: Global) -> Result<Outcome, AllocError> {
+    let point = point::<F>(alloc)?;
+    let mut out: Vec<F> = elements(alloc, &[9; 8])?;
+    let done = point.fill_equality_table_in_chunks(
+        alloc,
+        out.as_mut_slice(),
+        BitOrder::Msb,
+        F::ONE,
+        3,
+        &mut Unmetered::new(),
+    );
+    let table = [-8, 10, 12, -15, 16, -20, -24, 30];
+    Ok(judge(Ok(done.is_ok()), are(out.as_slice(), &table)))
+}
+
+/// Zeros appended up to the size that is there.
+fn size_that_is_there<F: PrimeCharacteristicRing>(alloc: Global) -> Result<Outcome, AllocError> {
+    let mut poly = poly::<F>(alloc)?;
+    let done = poly.pad_zeros(3);
+    Ok(judge(Ok(done.is_ok()), is_poly(poly.as_slice())))
+}
+
+/// A scalar storage, evaluated below the threshold and unpacked.
+fn scalars<F: Field, EF: ExtensionField<F>>(alloc: Global) -> Result<Outcome, AllocError> {
+    let point = point::<EF>(alloc)?;
+    let storage: PolyMaybePacked<F, EF> = PolyMaybePacked::Scalar(poly::<EF>(alloc)?);
+    let valued = storage.eval(alloc, &point) == Ok(element(20));
+    let unpacked = match storage.unpack(alloc) {
+        Ok(poly) => is_poly(poly.as_slice()),
+        Err(_) => false,
+    };
+    Ok(judge(Ok(valued), unpacked))
+}
+
+/// A table with lanes in its second half, added to packed zeros and paired with itself.
+fn split_in_lanes<F: Field, EF: ExtensionField<F>>(alloc: Global) -> Result<Outcome, AllocError>
+    requires { F.Packing.WIDTH ≡ 4 }
+{
+    let point: Point<EF> = Point::new(elements(alloc, &[2; 4])?);
+    let split = SplitEq::<F, EF>::new_packed(alloc, &point, EF::ONE)?;
+    let mut out: Vec<EF::ExtensionPacking> = elements(alloc, &[0; 4])?;
+    let done = split.accumulate_into_packed(alloc, out.as_mut_slice(), None);
+    let last = EF::ExtensionPacking::to_ext_iter(out.as_slice()).last();
+    let added = done.is_ok() && last == Some(element(16));
+    let sums = out.as_slice();
+    if !sums.len().is_power_of_two() {
+        return Err(AllocError);
+    }
+    let squares = split.eval_packed(alloc, PolyView::new(sums));
+    Ok(judge(Ok(added), squares == Ok(element(625))))
+}
+
+#[test]
+fn empty_points(rt: HostRuntime) {
+    assert!(rt; is_served(residues(rt.alloc(), AnyCall::Unfailing(Call::EmptyPoint))));
+}
+
+#[test]
+fn tables_in_one_chunk(rt: HostRuntime) {
+    assert!(rt; is_served(residues(rt.alloc(), AnyCall::Unfailing(Call::WholeChunk))));
+}
+
+#[test]
+fn padded_to_its_size(rt: HostRuntime) {
+    assert!(rt; is_served(residues(rt.alloc(), AnyCall::Unfailing(Call::SizeThatIsThere))));
+}
+
+#[test]
+fn scalars_below_the_threshold(rt: HostRuntime) {
+    assert!(rt; is_served(residues(rt.alloc(), AnyCall::Unfailing(Call::Scalars))));
+}
+
+#[test]
+fn split_tables_in_lanes(rt: HostRuntime) {
+    assert!(rt; is_served(residues(rt.alloc(), AnyCall::Unfailing(Call::SplitInLanes))));
+}
