@@ -1,8 +1,10 @@
 #!/usr/bin/env bash
 # The tests of the repository. First the calls that take memory, with the first, the second, ..
-# allocation of each refused, until none is refused any more; then the merge gate, which proves every
-# crate from nothing, tries the edits of crates/*/must-fail, which must be refused, and runs the tests and
-# the program.
+# allocation of each refused, until none is refused any more, and the program on words that it does not
+# answer; then the merge gate, which proves every crate from nothing, tries the edits of
+# crates/*/must-fail, which must be refused, and runs the tests and the program.
+#
+# With --refusals NAME.., the allocations of those crates are refused and nothing else is done.
 #
 # With --edits NAME.., all edits of those crates are tried and nothing else: those of edits/NAME beside
 # those of the gate, over the libraries that earlier checks kept; with --edits alone, those of every crate.
@@ -59,6 +61,19 @@ refusals() {
   echo "$crate: $(echo "$served" | wc -l) calls, each allocation refused in turn"
 }
 
+# Runs the program, and tests that it ends with status $1, with the line $2 on standard error and nothing
+# on standard output. The others are arguments of rt try.
+faulty() {
+  local status=$1 line=$2 ended=0
+  shift 2
+  (cd crates/mlu && rt try "$@") >"$room/out" 2>"$room/err" || ended=$?
+  if [ "$ended" -ne "$status" ] || [ -s "$room/out" ] || ! grep -qx "$line" "$room/err"; then
+    cat "$room/out" "$room/err"
+    echo "mlu: status $ended, in place of $status and '$line'"
+    exit 1
+  fi
+}
+
 # Tries all edits of the crates $@, on a copy that has those of edits/ beside those of the gate.
 edits() {
   local crate tried refused
@@ -85,8 +100,18 @@ if [ "${1:-}" = --edits ]; then
   exit
 fi
 
+if [ "${1:-}" = --refusals ]; then
+  shift
+  for crate in "$@"; do
+    refusals "$crate"
+  done
+  exit
+fi
+
 refusals mlu_refusals
 refusals mlu
+faulty 2 'mlu: length' -- eval 1,2,3 2
+faulty 3 'mlu: memory' --fail-alloc 1 -- eval 1,2,3,4 2,3
 status=0
 rt ci | tee "$room/said" || status=$?
 echo "all of it took $((SECONDS / 60)) minutes on $places processors"
