@@ -2,10 +2,10 @@
 ghost use Rattle.std.specs.Prelude.{◌≡◌, length, IfOk};
 
 use super::rings::{Row, quartics, residues};
-use super::table;
 use mlu_ring::{Additive, Algebra, ExtensionField, Field, PackedValue, PrimeCharacteristicRing};
 use mlu_test_support::lanes::lanes;
 use mlu_test_support::numbers::{are, element};
+use mlu_test_tables::table;
 use multilinear_util::poly::Poly;
 use std::alloc::{AllocError, Global};
 use std::test::Fail;

@@ -2,10 +2,10 @@
 ghost use Rattle.std.specs.Prelude.{◌≡◌, ◌*◌, ◌≤◌, ◌^◌, length};
 
 use super::rings::{Row, quartics, residues};
-use super::{point, table};
 use mlu_ring::{ExtensionField, Field, Sample};
 use mlu_test_support::numbers::element;
 use mlu_test_support::plain;
+use mlu_test_tables::{point, table};
 use multilinear_util::point::Point;
 use multilinear_util::poly::Poly;
 use rand_core::SeedableRng;

@@ -1,9 +1,9 @@
 //! Sizes, views, copies, growth and draws.
 
 use super::rings::{Row, quartics, residues};
-use super::table;
 use mlu_ring::{Additive, PrimeCharacteristicRing, Sample};
 use mlu_test_support::numbers::{are, element};
+use mlu_test_tables::table;
 use multilinear_util::poly::{Poly, PolyView};
 use rand_core::SeedableRng;
 use rand_pcg::Pcg32;

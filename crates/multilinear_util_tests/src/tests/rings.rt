@@ -2,49 +2,30 @@
 //! pays for every implementation that the rings stand on, and a call of these pays for none.
 ghost use Rattle.std.specs.Prelude.{◌≤◌};
 
-use super::{compressions, folds, packing, polys, runs, splits, storages, successors, tables};
+use super::{folds, packing, polys, storages, tables};
 use mlu_ext::QuarticExtension;
-use mlu_lanes::{BabyBear, LaneWidth, Lanes, WrappingU64};
+use mlu_lanes::{BabyBear, LaneWidth, Lanes};
 use mlu_ring::{ExtensionField, Field, Sample};
 use std::alloc::{AllocError, Global};
 
 /// What is tried.
 pub enum Row {
     BaseTables,
-    BothConstructors,
     Coefficients,
     CoefficientsAtTwo,
-    CompressesPrefix,
-    CompressesSuffix,
     Constants,
-    DrawnTables,
     Draws,
     EmptyPoint,
     GrowsAndShrinks,
     InPlace,
     IntoTheExtension,
-    MovedConstant,
-    MovedPrefix,
-    MovedSuffix,
-    NextRows,
-    OneEntryOfSixteen,
     Owned,
     PackedStorage,
     Packs,
-    RowsByRule,
-    RunsMoved,
-    RunsOfSixteen,
     ScalarStorage,
-    ScaleOfAConstant,
-    ScaledNextRows,
     Sums,
     TablesOfPoints,
-    TheFunction,
     ToPacked,
-    ValueInTheExtension,
-    ValueOfLanes,
-    ValuesAtTheNextRows,
-    ValuesByRule,
     Views,
 }
 
@@ -57,40 +38,21 @@ fn holds<F: Field + Sample, EF: ExtensionField<F> + Sample>(
 {
     match row {
         Row::BaseTables => packing::base_tables::<F, EF>(alloc),
-        Row::BothConstructors => compressions::constructs::<F, EF>(alloc),
         Row::Coefficients => folds::coefficients::<F, EF>(alloc),
         Row::CoefficientsAtTwo => folds::coefficients_at_two::<F, EF>(alloc),
-        Row::CompressesPrefix => compressions::compresses_prefix::<F, EF>(alloc),
-        Row::CompressesSuffix => compressions::compresses_suffix::<F, EF>(alloc),
         Row::Constants => polys::is_constant::<EF>(alloc),
-        Row::DrawnTables => splits::answer_as_plain::<F, EF>(alloc),
         Row::Draws => polys::draws_two::<EF>(alloc),
         Row::EmptyPoint => tables::of_the_empty_point::<EF>(alloc),
         Row::GrowsAndShrinks => polys::changes_size::<EF>(alloc),
         Row::InPlace => folds::in_place::<F, EF>(alloc),
         Row::IntoTheExtension => folds::into_the_extension::<F, EF>(alloc),
-        Row::MovedConstant => successors::moves_constant::<F, EF>(alloc),
-        Row::MovedPrefix => successors::moves_prefix::<F, EF>(alloc),
-        Row::MovedSuffix => successors::moves_suffix::<F, EF>(alloc),
-        Row::NextRows => successors::has_next_rows::<F, EF>(alloc),
-        Row::OneEntryOfSixteen => compressions::adds_one_entry::<F, EF>(alloc),
         Row::Owned => polys::owns::<EF>(alloc),
         Row::PackedStorage => storages::packed::<F, EF>(alloc),
         Row::Packs => packing::packs::<F, EF>(alloc),
-        Row::RowsByRule => successors::has_rows_by_rule::<F, EF>(alloc),
-        Row::RunsMoved => runs::moved::<F, EF>(alloc),
-        Row::RunsOfSixteen => runs::of_sixteen::<F, EF>(alloc),
         Row::ScalarStorage => storages::scalar::<F, EF>(alloc),
-        Row::ScaleOfAConstant => compressions::scales_a_constant::<F, EF>(alloc),
-        Row::ScaledNextRows => successors::meets_scaled_rows::<F, EF>(alloc),
         Row::Sums => folds::sums::<EF>(alloc),
         Row::TablesOfPoints => tables::of_points::<F, EF>(alloc),
-        Row::TheFunction => runs::is_the_function::<EF>(alloc),
         Row::ToPacked => folds::to_packed::<F, EF>(alloc),
-        Row::ValueInTheExtension => compressions::evaluates_monomials::<F, EF>(alloc),
-        Row::ValueOfLanes => compressions::value_of_lanes::<F, EF>(alloc),
-        Row::ValuesAtTheNextRows => successors::meets_next_rows::<F, EF>(alloc),
-        Row::ValuesByRule => successors::meets_rows_by_rule::<F, EF>(alloc),
         Row::Views => polys::is_viewed::<EF>(alloc),
     }
 }
@@ -111,14 +73,4 @@ where
     requires { W ≤ 8 }
 {
     holds::<BabyBear<W>, QuarticExtension<BabyBear<W>>>(alloc, row)
-}
-
-/// Whether the images of a split table of residues in the words are right, and a value there, where
-/// twice the highest bit is zero.
-pub fn words(alloc: Global) -> Result<bool, AllocError> {
-    let images = [10066329600, 10].map(WrappingU64::<4>::new);
-    let has_images = compressions::has_images::<BabyBear<4>, BabyBear<4>, WrappingU64<4>>(
-        alloc, &images,
-    )?;
-    Ok(has_images && compressions::vanishes(alloc, WrappingU64::<4>::new(1 << 63))?)
 }

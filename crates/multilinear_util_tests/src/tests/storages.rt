@@ -3,9 +3,9 @@ ghost use Rattle.std.specs.Prelude.{◌≡◌, ◌≤◌, length};
 ghost use Rattle.multilinear_util.specs.Storage.{scalars, view_scalars};
 
 use super::rings::{Row, quartics, residues};
-use super::{point, table};
 use mlu_ring::{ExtensionField, Field, PrimeCharacteristicRing};
 use mlu_test_support::numbers::{are, element};
+use mlu_test_tables::{point, table};
 use multilinear_util::poly::{PolyMaybePacked, PolyMaybePackedView};
 use std::alloc::{AllocError, Global};
 use std::test::Fail;

@@ -1,7 +1,7 @@
 //! What `{:?}` prints of polynomials and split tables.
-use super::{point, poly, table};
 use mlu_lanes::{BabyBear, Lanes};
 use mlu_test_support::texts::debug_text;
+use mlu_test_tables::{point, poly, table};
 use multilinear_util::poly::PolyMaybePacked;
 use multilinear_util::split_eq::SplitEq;
 use std::test::Fail;

@@ -1,6 +1,6 @@
 use Rattle.std.proofs.Common.{◌^◌, ap, sym}
 use Rattle.multilinear_util.proofs.Rooms.{room_for_eight, room_for_table}
-use Rattle.multilinear_util_tests.proofs.tests.splits.compresses_at.Goals as goal
+use Rattle.mlu_split_tests.proofs.tests.splits.compresses_at.Goals as goal
 
 pub is_compressed-requires : goal.is_compressed-requires
 is_compressed-requires g c = room_for_table _ c.num_variables.result _ (ap (λ n. 2 ^ n) (sym c.num_variables.ensures)) c.in_ok-poly.ensures

@@ -1,11 +1,11 @@
 //! Worked rows of split tables and of the calls through them.
 
 use super::rings::{Row, quartics, residues, words};
-use super::{point, poly, table};
 use mlu_ring::{Additive, ExtensionField, Field, MapFrom, PackedValue, PrimeCharacteristicRing};
 use mlu_test_support::lanes::{lanes, packed};
 use mlu_test_support::lists::pair;
 use mlu_test_support::numbers::{are, element, elements, with_coefficients};
+use mlu_test_tables::{point, poly, table};
 use multilinear_util::point::Point;
 use multilinear_util::poly::Poly;
 use multilinear_util::split_eq::SplitEq;

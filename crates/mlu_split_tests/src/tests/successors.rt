@@ -2,9 +2,9 @@
 ghost use Rattle.std.specs.Prelude.{◌<◌, length};
 
 use super::rings::{Row, residues};
-use super::{point, table};
 use mlu_ring::{Additive, ExtensionField, Field};
 use mlu_test_support::numbers::{are, element, elements};
+use mlu_test_tables::{point, table};
 use multilinear_util::point::{Point, Successor};
 use multilinear_util::poly::Poly;
 use multilinear_util::split_eq::SplitEq;

@@ -1,6 +1,6 @@
 use Rattle.std.proofs.Common.{◌*◌, ◌∙◌, length, ap}
 use Rattle.multilinear_util.proofs.Packed.{length-packed}
-use Rattle.multilinear_util_tests.proofs.tests.splits.sums_lanes.Goals as goal
+use Rattle.mlu_split_tests.proofs.tests.splits.sums_lanes.Goals as goal
 
 pub eval_packed-requires : goal.eval_packed-requires
 eval_packed-requires g c =

@@ -4,10 +4,10 @@ ghost use Rattle.multilinear_util.specs.Split.{split_entries};
 ghost use Rattle.multilinear_util.specs.Views.{entries};
 
 use super::rings::{Row, quartics, residues};
-use super::{point, table};
 use mlu_eq::laws::unique;
 use mlu_ring::{AffineInEach, ExtensionField, Field, PrimeCharacteristicRing};
 use mlu_test_support::numbers::{are, element};
+use mlu_test_tables::{point, table};
 use multilinear_util::poly::{Poly, PolyView};
 use multilinear_util::split_eq::SplitEq;
 use std::alloc::{AllocError, Global};

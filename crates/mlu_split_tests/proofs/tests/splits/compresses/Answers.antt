@@ -1,5 +1,5 @@
 use Rattle.multilinear_util.proofs.Rooms.{room_for_eight, room_for_table}
-use Rattle.multilinear_util_tests.proofs.tests.splits.compresses.Goals as goal
+use Rattle.mlu_split_tests.proofs.tests.splits.compresses.Goals as goal
 
 pub compresses_scalars-requires : goal.compresses_scalars-requires
 compresses_scalars-requires g c = room_for_table _ c.args.variables _ c.requires.size c.in_ok-poly.ensures
