@@ -1,5 +1,6 @@
 //! Points and polynomials made of whole numbers, for the crates of tests above `multilinear_util`.
 #![tactic(auto)]
+
 ghost use Rattle.std.specs.Prelude.{◌≡◌, length, IfOk};
 
 use mlu_ring::Additive;
