@@ -5,21 +5,9 @@ ghost use Rattle.std.specs.Mem.{type_size};
 use mlu_ring::{Additive, ExtensionField, Field, PrimeCharacteristicRing, SelfAlgebra};
 use mlu_sumcheck::{Transcript, bind, laws, prove_round, run, verify, verify_round};
 use mlu_test_support::numbers::{are, element, elements};
-use multilinear_util::point::Point;
-use multilinear_util::poly::Poly;
+use mlu_test_tables::{point, table};
 use multilinear_util::split_eq::SplitEq;
 use std::alloc::{AllocError, Global};
-
-/// The polynomial with the images of four numbers as its values.
-fn poly<R: Additive>(alloc: Global, numbers: [i32; 4]) -> Result<Poly<R>, AllocError>
-    ensures { IfOk result (λ poly. length poly ≡ 4) }
-{
-    let evals: Vec<R> = elements(alloc, &numbers)?;
-    if !evals.len().is_power_of_two() {
-        return Err(AllocError);
-    }
-    Ok(Poly::new(evals))
-}
 
 /// The images of three numbers.
 fn round<R: Additive>(numbers: [i32; 3]) -> [R; 3] {
@@ -33,8 +21,8 @@ pub fn gives_the_transcript<F: Field, EF: ExtensionField<F> + SelfAlgebra>(
 ) -> Result<bool, AllocError>
     requires two_rounds_fit { 6 * type_size EF.row < 2 ^ 63 }
 {
-    let poly = poly::<EF>(alloc, [1, 2, 3, 4])?;
-    let point = Point::new(elements::<EF>(alloc, &[2, 3])?);
+    let poly = table::<EF>(alloc, &[1, 2, 3, 4])?;
+    let point = point::<EF>(alloc, &[2, 3])?;
     let weights = SplitEq::<F, EF>::new_unpacked(alloc, &point, EF::ONE)?;
     let challenges = elements::<EF>(alloc, &[5, 7])?;
     let Transcript { rounds, claims } = run(alloc, &poly, &weights, challenges.as_slice())?;
@@ -46,8 +34,8 @@ pub fn gives_the_transcript<F: Field, EF: ExtensionField<F> + SelfAlgebra>(
 pub fn proves_and_binds<EF: SelfAlgebra>(alloc: Global) -> Result<bool, AllocError>
     requires two_rounds_fit { 6 * type_size EF.row < 2 ^ 63 }
 {
-    let mut poly = poly::<EF>(alloc, [1, 2, 3, 4])?;
-    let mut weights = self::poly::<EF>(alloc, [2, -3, -4, 6])?;
+    let mut poly = table::<EF>(alloc, &[1, 2, 3, 4])?;
+    let mut weights = table::<EF>(alloc, &[2, -3, -4, 6])?;
     let first = prove_round(&poly, &weights);
     bind(&mut poly, &mut weights, element(5));
     Ok(
@@ -82,8 +70,8 @@ pub fn names_the_law<F: Field, EF: ExtensionField<F> + SelfAlgebra>(
 ) -> Result<bool, AllocError>
     requires two_rounds_fit { 6 * type_size EF.row < 2 ^ 63 }
 {
-    let poly = poly::<EF>(alloc, [1, 2, 3, 4])?;
-    let point = Point::new(elements::<EF>(alloc, &[2, 3])?);
+    let poly = table::<EF>(alloc, &[1, 2, 3, 4])?;
+    let point = point::<EF>(alloc, &[2, 3])?;
     let split = SplitEq::<F, EF>::new_packed(alloc, &point, EF::ONE)?;
     let challenges = elements::<EF>(alloc, &[5, 7])?;
     let challenges = challenges.as_slice();
