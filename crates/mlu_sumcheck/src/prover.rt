@@ -85,7 +85,8 @@ pub fn run<F: Field, EF: ExtensionField<F> + SelfAlgebra>(
     requires weights_size { length (split_entries EF.ring weights.now) ≡ 2 ^ length challenges.now }
     ensures number_of_rounds { IfOk result (λ t. length t.rounds.items ≡ length challenges.now) }
     ensures number_of_claims { IfOk result (λ t. length t.claims.items ≡ suc (length challenges.now)) }
-    ensures first { IfOk result (λ t. slice_index_or t.claims.items 0 EF.ring.zero ≡ pair EF.ring (split_entries EF.ring weights.now) poly.now) }
+    ensures first { IfOk result (λ t. slice_index_or t.claims.items 0 EF.ring.zero
+        ≡ pair EF.ring (split_entries EF.ring weights.now) poly.now) }
     ensures rounds { IfOk result (λ t. t.rounds.items ≡ rounds_of EF.ring (split_entries EF.ring weights.now) poly.now challenges.now) }
     ensures fit { IfOk result (λ t. Fit EF.ring t.claims.items t.rounds.items challenges.now) }
     ensures last { IfOk result (λ t. slice_index_or t.claims.items (length challenges.now) EF.ring.zero
