@@ -2,3 +2,4 @@
 pub mod Entrywise
 pub mod OneLane
 pub mod ResidueSums
+pub mod PackedSums

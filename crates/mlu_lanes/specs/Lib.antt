@@ -4,3 +4,4 @@ pub mod Entrywise
 pub mod Residues
 pub mod BabyBear
 pub mod WrappingU64
+pub mod Packed

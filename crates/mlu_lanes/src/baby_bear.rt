@@ -6,7 +6,9 @@ use std::alloc::AllocError;
 
 mod extension;
 mod field;
+mod packed;
 mod reduce;
+mod reduce_each;
 mod ring;
 
 /// 15 · 2^27 + 1, a prime. A sum of two residues fits 32 bits, and of four products 64 bits.

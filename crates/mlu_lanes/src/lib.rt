@@ -11,6 +11,7 @@
 mod baby_bear;
 mod lanes;
 mod sample;
+mod words;
 mod wrapping;
 
 pub use baby_bear::{BabyBear, MODULUS};

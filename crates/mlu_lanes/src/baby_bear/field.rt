@@ -1,10 +1,12 @@
-//! The packed form of the prime field.
+//! The packed form of the prime field. Products are made in vectors, each lane reduced once.
 ghost use Rattle.std.specs.Prelude.{◌≡◌};
 ghost use Rattle.mlu_lanes.specs.LaneRing.{lane_by_lane};
 ghost use Rattle.mlu_lanes.specs.BabyBear.{baby_bear_ring};
 
 use super::BabyBear;
+use super::packed::{products, scaled, sum_reduced};
 use crate::lanes::{LaneWidth, Lanes};
+use crate::words::wide_sums;
 use mlu_ring::{Field, Lanewise};
 
 impl<const W: usize> Lanewise for BabyBear<W>
@@ -30,5 +32,19 @@ where
     #[inline]
     fn lanes_mul(a: Lanes<Self, W>, b: Lanes<Self, W>) -> Lanes<Self, W> {
         a * b
+    }
+
+    #[inline(always)]
+    fn dot4(l: &[Lanes<Self, W>], r: &[Lanes<Self, W>]) -> Lanes<Self, W> {
+        let low = wide_sums(products(&l[0], &r[0]), products(&l[1], &r[1]));
+        let high = wide_sums(products(&l[2], &r[2]), products(&l[3], &r[3]));
+        sum_reduced(wide_sums(low, high))
+    }
+
+    #[inline(always)]
+    fn mixed_dot4(p: &[Lanes<Self, W>], c: &[Self]) -> Lanes<Self, W> {
+        let low = wide_sums(scaled(&p[0], c[0]), scaled(&p[1], c[1]));
+        let high = wide_sums(scaled(&p[2], c[2]), scaled(&p[3], c[3]));
+        sum_reduced(wide_sums(low, high))
     }
 }

@@ -1,0 +1,43 @@
+-- Sums of four products of packed residues, from lanes that are reduced once.
+use Rattle.std.proofs.Common.{◌≡◌, ℕ, ◌+◌, ◌*◌, ◌%◌, ◌<◌, List, [], ◌∷◌, length, replicate, get_or, ap, sym, ◌∙◌, arith}
+use Rattle.std.proofs.lemmas.List.{ext_get_or, get_or-replicate}
+use Rattle.std.proofs.lemmas.Simd.{length-replicate}
+use Rattle.mlu_ring.proofs.Resized.{resized-whole}
+use Rattle.mlu_ring.specs.Lanes.{splat_of}
+use Rattle.mlu_ring.specs.Tables.{pair}
+use Rattle.mlu_lanes.specs.BabyBear.{baby_bear_ring, baby_bear_laws, canonical, reduced}
+use Rattle.mlu_lanes.specs.LaneRing.{lane_ring, packed_of, same_values}
+use Rattle.mlu_lanes.specs.Packed.{residue}
+use Rattle.mlu_lanes.specs.declared.baby_bear.BabyBear.{BabyBear}
+use Rattle.mlu_lanes.specs.declared.baby_bear.TheConstants.{MODULUS}
+use Rattle.mlu_lanes.specs.declared.lanes.Lanes.{Lanes}
+use Rattle.mlu_lanes.proofs.OneLane.{lane_of_four_products}
+use Rattle.mlu_lanes.proofs.ResidueSums.{reduced_once}
+
+-- a list of four, from what is read of it
+pub read_four : {A : Type 0} (xs : List A) (a b c d : A) → length xs ≡ 4
+    → a ≡ get_or xs 0 a → b ≡ get_or xs 1 b → c ≡ get_or xs 2 c → d ≡ get_or xs 3 d → xs ≡ a ∷ b ∷ c ∷ d ∷ []
+read_four (w ∷ x ∷ y ∷ z ∷ []) a b c d long at_0 at_1 at_2 at_3 = cc (at_0, at_1, at_2, at_3)
+read_four xs a b c d long at_0 at_1 at_2 at_3 = absurd (omega arith)
+
+module _ {W : ℕ} where
+  same_lanes : (p q : Lanes (BabyBear W) W)
+      → ((j : ℕ) → j < W → get_or p.values j (reduced 0) ≡ get_or q.values j (reduced 0)) → p ≡ q
+  same_lanes p q same =
+      let full = p.full in
+      same_values W p q (ext_get_or (reduced 0) p.values q.values (full ∙ sym q.full) (λ j below. same j (omega (arith, full, below))))
+
+  pub sum_of_residues : (a b c d p q r s sum : Lanes (BabyBear W) W)
+      → ((j : ℕ) → j < W → residue sum j
+      ≡ (residue a j * residue p j + residue b j * residue q j + (residue c j * residue r j + residue d j * residue s j)) % MODULUS)
+      → sum ≡ pair (lane_ring W (baby_bear_ring W)) (a ∷ b ∷ c ∷ d ∷ []) (p ∷ q ∷ r ∷ s ∷ [])
+  sum_of_residues a b c d p q r s sum each =
+      same_lanes sum _ (λ j below.
+      reduced_once _ _ _ _ _ _ _ _ _ (each j below)
+      ∙ sym (lane_of_four_products W (baby_bear_ring W) j below (baby_bear_laws W) a b c d p q r s))
+
+  -- the value in every lane
+  pub residue_of_splat : (c : BabyBear W) (j : ℕ) → j < W → residue (splat_of W (packed_of W (reduced 0)) c) j ≡ canonical c
+  residue_of_splat c j below =
+      let lanes = resized-whole (reduced 0) W (replicate W c) (length-replicate W c) in
+      ap (λ values. canonical (get_or values j (reduced 0))) lanes ∙ ap canonical (get_or-replicate W j c (reduced 0) below)

@@ -1,0 +1,55 @@
+//! Residues of words lane by lane, with no division.
+ghost use Rattle.std.specs.Prelude.{◌≡◌, ℕ, ◌+◌, ◌*◌, ◌/◌, ◌%◌, ◌^◌, ◌<◌, slice_index};
+
+use super::MODULUS;
+use super::reduce::{FOLD, RECIPROCAL};
+use crate::words::{
+    all, differences, least, lower_halves, narrowed, shifted_right, wide_all, wide_differences,
+    wide_products, wide_sums,
+};
+use std::simd::prelude::*;
+
+/// The residues of lanes below twice the modulus, as this asks.
+#[inline(always)]
+pub fn reduce_each_once<const W: usize>(words: Simd<u32, W>) -> Simd<u32, W>
+    requires { (j : ℕ) → j < W → slice_index words j < 2 * MODULUS }
+    ensures { (j : ℕ) → j < W → slice_index result j ≡ slice_index words.entry j % MODULUS }
+{
+    least(words, differences(words, all(MODULUS)))
+}
+
+/// The residues of any lanes.
+#[inline(always)]
+pub fn reduce_each_word<const W: usize>(words: Simd<u64, W>) -> Simd<u32, W>
+    requires { (j : ℕ) → j < W → slice_index words j < 2 ^ 64 }
+    ensures { (j : ℕ) → j < W → slice_index result j ≡ slice_index words.entry j % MODULUS }
+{
+    let folded = folded(words);
+    let quotients = folded_quotients(folded);
+    let multiples = wide_products(quotients, wide_all(u64::from(MODULUS)));
+    let rest = wide_differences(folded, multiples);
+    reduce_each_once(narrowed(rest))
+}
+
+// Lanes below 2^61 of the same residues.
+#[inline(always)]
+fn folded<const W: usize>(words: Simd<u64, W>) -> Simd<u64, W>
+    requires { (j : ℕ) → j < W → slice_index words j < 2 ^ 64 }
+    ensures { (j : ℕ) → j < W → slice_index result j ≡ slice_index words.entry j / 2 ^ 32 * FOLD + slice_index words.entry j % 2 ^ 32 }
+{
+    let high = shifted_right(words, 32);
+    let low = lower_halves(words);
+    let scaled = wide_products(high, wide_all(FOLD));
+    wide_sums(scaled, low)
+}
+
+// The quotients by the modulus, or one less.
+#[inline(always)]
+fn folded_quotients<const W: usize>(folded: Simd<u64, W>) -> Simd<u64, W>
+    requires { (j : ℕ) → j < W → slice_index folded j < 2 ^ 61 }
+    ensures { (j : ℕ) → j < W → slice_index result j ≡ slice_index folded.entry j / 2 ^ 29 * RECIPROCAL / 2 ^ 33 }
+{
+    let high = shifted_right(folded, 29);
+    let scaled = wide_products(high, wide_all(RECIPROCAL));
+    shifted_right(scaled, 33)
+}

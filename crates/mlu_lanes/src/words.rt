@@ -1,0 +1,120 @@
+//! Vectors of words at any width: what std::simd gives, each operation with its clause for a lane.
+ghost use Rattle.std.specs.Prelude.{◌≡◌, ℕ, ◌+◌, ◌-◌, ◌*◌, ◌/◌, ◌%◌, ◌^◌, ◌<◌, ◌≤◌, slice_index, min, bit_and};
+
+use std::simd::prelude::*;
+
+/// The word in every lane.
+#[inline(always)]
+pub fn all<const W: usize>(word: u32) -> Simd<u32, W>
+    ensures { (j : ℕ) → j < W → slice_index result j ≡ word }
+{
+    Simd::splat(word)
+}
+
+/// The sums, which wrap round.
+#[inline(always)]
+pub fn sums<const W: usize>(a: Simd<u32, W>, b: Simd<u32, W>) -> Simd<u32, W>
+    ensures { (j : ℕ) → j < W → slice_index result j ≡ (slice_index a.entry j + slice_index b.entry j) % 2 ^ 32 }
+{
+    a + b
+}
+
+/// The differences, which wrap round.
+#[inline(always)]
+pub fn differences<const W: usize>(a: Simd<u32, W>, b: Simd<u32, W>) -> Simd<u32, W>
+    ensures { (j : ℕ) → j < W → slice_index result j ≡ (slice_index a.entry j + 2 ^ 32 - slice_index b.entry j) % 2 ^ 32 }
+{
+    a - b
+}
+
+/// The lesser word of each lane.
+#[inline(always)]
+pub fn least<const W: usize>(a: Simd<u32, W>, b: Simd<u32, W>) -> Simd<u32, W>
+    ensures { (j : ℕ) → j < W → slice_index result j ≡ min (slice_index a.entry j) (slice_index b.entry j) }
+{
+    a.simd_min(b)
+}
+
+/// The lanes at twice their bits.
+#[inline(always)]
+pub fn widened<const W: usize>(words: Simd<u32, W>) -> Simd<u64, W>
+    ensures { (j : ℕ) → j < W → slice_index result j ≡ slice_index words.entry j }
+{
+    words.cast::<u64>()
+}
+
+/// The lanes at half of their bits. Asks that they fit.
+#[inline(always)]
+pub fn narrowed<const W: usize>(words: Simd<u64, W>) -> Simd<u32, W>
+    requires { (j : ℕ) → j < W → slice_index words j < 2 ^ 32 }
+    ensures { (j : ℕ) → j < W → slice_index result j ≡ slice_index words.entry j }
+{
+    words.cast::<u32>()
+}
+
+/// The wide word in every lane.
+#[inline(always)]
+pub fn wide_all<const W: usize>(word: u64) -> Simd<u64, W>
+    ensures { (j : ℕ) → j < W → slice_index result j ≡ word }
+{
+    Simd::splat(word)
+}
+
+/// The sums. Asks that they fit.
+#[inline(always)]
+pub fn wide_sums<const W: usize>(a: Simd<u64, W>, b: Simd<u64, W>) -> Simd<u64, W>
+    requires { (j : ℕ) → j < W → slice_index a j + slice_index b j < 2 ^ 64 }
+    ensures { (j : ℕ) → j < W → slice_index result j ≡ slice_index a.entry j + slice_index b.entry j }
+{
+    a + b
+}
+
+/// The differences. Asks that none is negative.
+#[inline(always)]
+pub fn wide_differences<const W: usize>(a: Simd<u64, W>, b: Simd<u64, W>) -> Simd<u64, W>
+    requires { (j : ℕ) → j < W → slice_index b j ≤ slice_index a j }
+    ensures { (j : ℕ) → j < W → slice_index result j ≡ slice_index a.entry j - slice_index b.entry j }
+{
+    a - b
+}
+
+/// The products of lanes that fit 32 bits, as this asks.
+#[inline(always)]
+pub fn wide_products<const W: usize>(a: Simd<u64, W>, b: Simd<u64, W>) -> Simd<u64, W>
+    requires { (j : ℕ) → j < W → (slice_index a j < 2 ^ 32) × (slice_index b j < 2 ^ 32) }
+    ensures { (j : ℕ) → j < W → slice_index result j ≡ slice_index a.entry j * slice_index b.entry j }
+{
+    a * b
+}
+
+/// The lanes without their lowest bits. Asks for fewer than 64.
+#[inline(always)]
+pub fn shifted_right<const W: usize>(words: Simd<u64, W>, bits: u64) -> Simd<u64, W>
+    requires { bits < 64 }
+    ensures { (j : ℕ) → j < W → slice_index result j ≡ slice_index words.entry j / 2 ^ bits }
+{
+    each_shifted_right(words, wide_all(bits))
+}
+
+#[inline(always)]
+fn each_shifted_right<const W: usize>(words: Simd<u64, W>, bits: Simd<u64, W>) -> Simd<u64, W>
+    requires { (j : ℕ) → j < W → slice_index bits j < 64 }
+    ensures { (j : ℕ) → j < W → slice_index result j ≡ slice_index words.entry j / 2 ^ slice_index bits.entry j }
+{
+    words >> bits
+}
+
+/// The lower half of each lane.
+#[inline(always)]
+pub fn lower_halves<const W: usize>(words: Simd<u64, W>) -> Simd<u64, W>
+    ensures { (j : ℕ) → j < W → slice_index result j ≡ slice_index words.entry j % 2 ^ 32 }
+{
+    masked(words, wide_all(4294967295))
+}
+
+#[inline(always)]
+fn masked<const W: usize>(words: Simd<u64, W>, mask: Simd<u64, W>) -> Simd<u64, W>
+    ensures { (j : ℕ) → j < W → slice_index result j ≡ bit_and (slice_index words.entry j) (slice_index mask.entry j) }
+{
+    words & mask
+}
