@@ -36,7 +36,7 @@ pub fn sum_reduced<const W: usize>(words: Simd<u64, W>) -> Lanes<BabyBear<W>, W>
     requires { (j : ℕ) → j < W → slice_index words j < 2 ^ 64 }
     ensures { (j : ℕ) → j < W → residue result j ≡ slice_index words.entry j % MODULUS }
 {
-    packed(reduce_each_word(words))
+    lanes_of(reduce_each_word(words))
 }
 
 #[inline(always)]
@@ -64,7 +64,7 @@ fn words_of<const W: usize>(p: &Lanes<BabyBear<W>, W>) -> Simd<u32, W>
 
 // The packed value with these least residues. The compiler makes one store of the loop.
 #[inline(always)]
-fn packed<const W: usize>(residues: Simd<u32, W>) -> Lanes<BabyBear<W>, W>
+fn lanes_of<const W: usize>(residues: Simd<u32, W>) -> Lanes<BabyBear<W>, W>
     requires { (j : ℕ) → j < W → slice_index residues j < MODULUS }
     ensures { (j : ℕ) → j < W → residue result j ≡ slice_index residues.entry j }
 {

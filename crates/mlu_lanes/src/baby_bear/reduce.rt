@@ -6,9 +6,6 @@ use super::MODULUS;
 /// 2^62 over the modulus, rounded down.
 pub const RECIPROCAL: u64 = 2290649223;
 
-/// `2^28 - 2`, which is `2^32` modulo the modulus.
-pub const FOLD: u64 = 268435454;
-
 /// The residue of `x`. Asks that `x` is below twice the modulus.
 ///
 /// Where `x` is below the modulus, the difference wraps round and is the greater one.
@@ -36,13 +33,14 @@ pub fn reduce_product(x: u64) -> u32
 
 /// The residue of any word, with no division: a sum of four products of two residues is one.
 ///
-/// `folded` is below `2^61`, so that what is left of it by the shift fits 32 bits, as each product
-/// here asks that lanes are to make at a time. `quotient` is that of `folded` or one less.
+/// `2^32` is `2^28 - 2` modulo the modulus, which folds `x` to `folded` below `2^60`. `quotient` is
+/// that of `folded` or one less, and the remainder by 2^32 is as above.
 #[inline(always)]
 pub fn reduce_word(x: u64) -> u32
     ensures { result ≡ x % MODULUS }
 {
-    let folded = (x >> 32) * FOLD + x % 4294967296;
-    let quotient = (folded >> 29) * RECIPROCAL >> 33;
+    let high = x >> 32;
+    let folded = ((high << 28) - (high << 1)) + x % 4294967296;
+    let quotient = ((folded >> 28) % 4294967296) * RECIPROCAL >> 34;
     reduce_once((folded - quotient * u64::from(MODULUS)) as u32)
 }

@@ -2,12 +2,15 @@
 ghost use Rattle.std.specs.Prelude.{◌≡◌, ℕ, ◌+◌, ◌*◌, ◌/◌, ◌%◌, ◌^◌, ◌<◌, slice_index};
 
 use super::MODULUS;
-use super::reduce::{FOLD, RECIPROCAL};
+use super::reduce::RECIPROCAL;
 use crate::words::{
     all, differences, least, lower_halves, narrowed, shifted_right, wide_all, wide_differences,
     wide_products, wide_sums,
 };
 use std::simd::prelude::*;
+
+/// `2^28 - 2`, which is `2^32` modulo the modulus.
+const FOLD: u64 = 268435454;
 
 /// The residues of lanes below twice the modulus, as this asks.
 #[inline(always)]
@@ -19,6 +22,9 @@ pub fn reduce_each_once<const W: usize>(words: Simd<u32, W>) -> Simd<u32, W>
 }
 
 /// The residues of any lanes.
+///
+/// As `reduce_word`, but by a product and a shift by 29, after which 32 bits are left with no remainder
+/// taken: three vector products a pair of lanes. Of one word the compiler makes wider products of this.
 #[inline(always)]
 pub fn reduce_each_word<const W: usize>(words: Simd<u64, W>) -> Simd<u32, W>
     requires { (j : ℕ) → j < W → slice_index words j < 2 ^ 64 }
@@ -31,7 +37,7 @@ pub fn reduce_each_word<const W: usize>(words: Simd<u64, W>) -> Simd<u32, W>
     reduce_each_once(narrowed(rest))
 }
 
-// Lanes below 2^61 of the same residues.
+// Lanes of the same residues, below 2^61.
 #[inline(always)]
 fn folded<const W: usize>(words: Simd<u64, W>) -> Simd<u64, W>
     requires { (j : ℕ) → j < W → slice_index words j < 2 ^ 64 }

@@ -1,7 +1,7 @@
 -- Below j the elements have the words as residues.
 use Rattle.std.proofs.Common.{◌≡◌, ℕ, ◌<◌, length, get_or}
 use Rattle.mlu_lanes.specs.BabyBear.{canonical, reduced}
-use Rattle.mlu_lanes.proofs.baby_bear.packed.packed.Given as goal
+use Rattle.mlu_lanes.proofs.baby_bear.packed.lanes_of.Given as goal
 
 abbrev pub invariant-loop-j : goal.invariant-loop-j
 invariant-loop-j g l = record {
