@@ -2,3 +2,5 @@ pub mod DoubleSums
 pub mod Blocks
 pub mod PlusRows
 pub mod Groups
+pub mod PackedCoefficients
+pub mod BasisDots
