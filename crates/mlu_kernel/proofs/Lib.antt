@@ -4,3 +4,4 @@ pub mod PlusRows
 pub mod Groups
 pub mod PackedCoefficients
 pub mod BasisDots
+pub mod Columns

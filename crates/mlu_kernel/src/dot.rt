@@ -1,8 +1,13 @@
 //! Packed weights of columns times scalar weights of rows.
-ghost use Rattle.std.specs.Prelude.{◌≡◌, ◌*◌, length, map};
+ghost use Rattle.std.specs.Prelude.{◌≡◌, ◌*◌, ◌<◌, ◌≤◌, length, map};
+ghost use Rattle.std.specs.Mem.{type_size};
 ghost use Rattle.mlu_ring.specs.Lanes.{logical};
+ghost use Rattle.mlu_kernel.specs.Columns.{AreColumns};
 ghost use Rattle.mlu_kernel.specs.Kernels.{double_sum};
 
+use crate::basis_split::{
+    MOST_COEFFICIENTS, MOST_WEIGHTS, SMALL_BYTES, is_small, row_dot_by_columns, split_coefficients,
+};
 use crate::one_row::{lane_sum, row_dot_in_lanes};
 use mlu_ring::{
     Additive, Algebra, ExtensionField, Field, Lanewise, PackedFieldExtension, PackedValue, row_of,
@@ -22,7 +27,63 @@ pub fn compress_hi_dot_packed<F: Field, EF: ExtensionField<F>>(
     ensures { result ≡ double_sum EF.ring eq0.now
         (logical EF.ExtensionPacking.ext_lanes eq1.now) (map EF.embed chunk.now) }
 {
-    compress_hi_dot_packed_eager(eq1, chunk, eq0)
+    if eq1.len() > MOST_WEIGHTS || !is_small(&F::Packing::ZERO) {
+        return compress_hi_dot_packed_eager(eq1, chunk, eq0);
+    }
+    match EF::DIMENSION {
+        1 => compress_by_columns::<F, EF, 1>(eq1, chunk, eq0),
+        2 => compress_by_columns::<F, EF, 2>(eq1, chunk, eq0),
+        3 => compress_by_columns::<F, EF, 3>(eq1, chunk, eq0),
+        4 => compress_by_columns::<F, EF, 4>(eq1, chunk, eq0),
+        5 => compress_by_columns::<F, EF, 5>(eq1, chunk, eq0),
+        6 => compress_by_columns::<F, EF, 6>(eq1, chunk, eq0),
+        7 => compress_by_columns::<F, EF, 7>(eq1, chunk, eq0),
+        MOST_COEFFICIENTS => compress_by_columns::<F, EF, MOST_COEFFICIENTS>(eq1, chunk, eq0),
+        _ => compress_hi_dot_packed_eager(eq1, chunk, eq0),
+    }
+}
+
+/// [`compress_hi_dot_packed`] with one packed dot a row for each of the `D` coefficients, four
+/// products at a time.
+fn compress_by_columns<F: Field, EF: ExtensionField<F>, const D: usize>(
+    eq1: &[EF::ExtensionPacking],
+    chunk: &[F],
+    eq0: &[EF],
+) -> EF
+    requires dimension { D ≡ EF.DIMENSION }
+    requires some { 0 < D }
+    requires few { D ≤ MOST_COEFFICIENTS }
+    requires short { length eq1.now ≤ MOST_WEIGHTS }
+    requires small { type_size F.Packing.row < SMALL_BYTES }
+    requires entries { length chunk.now ≡ length eq0.now * (length eq1.now * F.Packing.WIDTH) }
+    ensures { result ≡ double_sum EF.ring eq0.now
+        (logical EF.ExtensionPacking.ext_lanes eq1.now) (map EF.embed chunk.now) }
+{
+    let split = split_coefficients::<F, EF, D>(eq1);
+    rows_by_columns::<F, EF, D>(eq1, &split, chunk, eq0)
+}
+
+/// The rows, where the coefficients of `eq1` are split.
+#[inline]
+fn rows_by_columns<F: Field, EF: ExtensionField<F>, const D: usize>(
+    eq1: &[EF::ExtensionPacking],
+    split: &[[F::Packing; MOST_WEIGHTS]; D],
+    chunk: &[F],
+    eq0: &[EF],
+) -> EF
+    requires split { AreColumns EF.ExtensionPacking.packed_coefficients F.Packing.ring.zero EF.DIMENSION
+        (type_size F.Packing.row) eq1.now split.now }
+    requires entries { length chunk.now ≡ length eq0.now * (length eq1.now * F.Packing.WIDTH) }
+    ensures { result ≡ double_sum EF.ring eq0.now
+        (logical EF.ExtensionPacking.ext_lanes eq1.now) (map EF.embed chunk.now) }
+{
+    let mut sum = EF::ExtensionPacking::ZERO;
+    for j in 0..eq0.len() {
+        let dot = row_dot_by_columns::<F, EF, D>(eq1, split, chunk, eq0.len(), j);
+        let scaled = dot.scale(eq0[j]);
+        sum = sum + scaled;
+    }
+    lane_sum::<F, EF>(sum)
 }
 
 /// [`compress_hi_dot_packed`] with one packed dot a row. The lanes are added up at the end, once.

@@ -12,6 +12,7 @@
 #![tactic(auto)]
 
 mod basis_dot;
+mod basis_split;
 mod dot;
 pub mod one_row;
 mod prefix;

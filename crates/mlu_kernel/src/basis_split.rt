@@ -1,0 +1,159 @@
+//! Dots with packed weights, coefficient by coefficient.
+//!
+//! A row of the base times packed weights costs a dot for each coefficient of the weights. So the
+//! coefficients are split into columns on the stack, once for all rows, and each row is loaded
+//! once and asks [`packed_basis_dot`] for one dot a column.
+ghost use Rattle.std.specs.Prelude.{◌≡◌, ◌*◌, ◌<◌, ◌≤◌, ◌↔◌, IsTrue, length, map, take};
+ghost use Rattle.std.specs.List.{All};
+ghost use Rattle.std.specs.Mem.{type_size};
+ghost use Rattle.mlu_ring.specs.Lanes.{logical};
+ghost use Rattle.mlu_ring.specs.Matrices.{row_at};
+ghost use Rattle.mlu_ring.specs.Sums.{sum_of};
+ghost use Rattle.mlu_ring.specs.Tables.{pair};
+ghost use Rattle.mlu_kernel.specs.Columns.{column, AreColumns};
+
+use crate::basis_dot::packed_basis_dot;
+use mlu_ring::{
+    Additive, ExtensionField, Field, Lanewise, PackedFieldExtension, PackedValue, Unmetered,
+    row_of, row_of_width,
+};
+
+/// The packed weights that a column has room for.
+pub(crate) const MOST_WEIGHTS: usize = 128;
+
+/// The columns that a dot takes.
+pub(crate) const MOST_COEFFICIENTS: usize = 8;
+
+/// The bytes that a packing must stay below, so that the columns take less than a megabyte of
+/// stack. Residues have 32 at eight lanes.
+pub(crate) const SMALL_BYTES: usize = 1024;
+
+/// Whether a value takes few bytes: a constant, once the type is known.
+#[inline]
+pub(crate) fn is_small<T>(x: &T) -> bool
+    ensures { IsTrue result ↔ (type_size T.row < SMALL_BYTES) }
+{
+    std::mem::size_of_val(x) < SMALL_BYTES
+}
+
+/// The coefficients of the weights, a column for each. The places past the weights are zeros.
+#[inline]
+pub(crate) fn split_coefficients<F: Field, EF: ExtensionField<F>, const D: usize>(
+    weights: &[EF::ExtensionPacking],
+) -> [[F::Packing; MOST_WEIGHTS]; D]
+    requires dimension { D ≡ EF.DIMENSION }
+    requires some { 0 < D }
+    requires few { D ≤ MOST_COEFFICIENTS }
+    requires short { length weights.now ≤ MOST_WEIGHTS }
+    requires small { type_size F.Packing.row < SMALL_BYTES }
+    ensures { AreColumns EF.ExtensionPacking.packed_coefficients F.Packing.ring.zero EF.DIMENSION
+        (type_size F.Packing.row) weights.now result }
+{
+    let mut split = [[F::Packing::ZERO; MOST_WEIGHTS]; D];
+    for k in 0..D {
+        split[k] = coefficient_column::<F, EF>(weights, k);
+    }
+    split
+}
+
+/// Coefficient `k` of the weights, and zeros past them.
+#[inline]
+fn coefficient_column<F: Field, EF: ExtensionField<F>>(
+    weights: &[EF::ExtensionPacking],
+    k: usize,
+) -> [F::Packing; MOST_WEIGHTS]
+    requires place { k < EF.DIMENSION }
+    requires short { length weights.now ≤ MOST_WEIGHTS }
+    requires small { type_size F.Packing.row < SMALL_BYTES }
+    ensures long { length result ≡ MOST_WEIGHTS }
+    ensures column { take (length weights.now) result
+        ≡ column EF.ExtensionPacking.packed_coefficients F.Packing.ring.zero weights.now k }
+{
+    let mut coefficients = [F::Packing::ZERO; MOST_WEIGHTS];
+    for i in 0..weights.len() {
+        coefficients[i] = weights[i].packed_coefficient(k);
+    }
+    coefficients
+}
+
+/// [`row_dot_in_lanes`](crate::one_row::row_dot_in_lanes) of row `j` of so many rows, from the
+/// columns of the weights.
+#[inline]
+pub(crate) fn row_dot_by_columns<F: Field, EF: ExtensionField<F>, const D: usize>(
+    weights: &[EF::ExtensionPacking],
+    split: &[[F::Packing; MOST_WEIGHTS]; D],
+    chunk: &[F],
+    rows: usize,
+    j: usize,
+) -> EF::ExtensionPacking
+    requires split { AreColumns EF.ExtensionPacking.packed_coefficients F.Packing.ring.zero EF.DIMENSION
+        (type_size F.Packing.row) weights.now split.now }
+    requires entries { length chunk.now ≡ rows * (length weights.now * F.Packing.WIDTH) }
+    requires row { j < rows }
+    ensures { sum_of EF.ring (EF.ExtensionPacking.ext_lanes result)
+        ≡ pair EF.ring (logical EF.ExtensionPacking.ext_lanes weights.now)
+        (map EF.embed (row_at (length weights.now * F.Packing.WIDTH) chunk.now j)) }
+{
+    let blocks = packed_row::<F>(chunk, rows, j, weights.len());
+    let sums = column_dots::<F, D>(split, &blocks[..weights.len()]);
+    joined::<F, EF, D>(sums)
+}
+
+/// Row `j` of so many rows, in `n` packed values, and zeros past them.
+#[inline]
+fn packed_row<F: Lanewise>(
+    chunk: &[F],
+    rows: usize,
+    j: usize,
+    n: usize,
+) -> [F::Packing; MOST_WEIGHTS]
+    requires short { n ≤ MOST_WEIGHTS }
+    requires small { type_size F.Packing.row < SMALL_BYTES }
+    requires entries { length chunk.now ≡ rows * (n * F.Packing.WIDTH) }
+    requires row { j < rows }
+    ensures long { length result ≡ MOST_WEIGHTS }
+    ensures lanes { logical F.Packing.lanes (take n result) ≡ row_at (n * F.Packing.WIDTH) chunk.now j }
+{
+    let row = row_of(chunk, rows, j);
+    let mut packed = [F::Packing::ZERO; MOST_WEIGHTS];
+    for i in 0..n {
+        packed[i] = F::Packing::load(row_of_width(row, F::Packing::WIDTH, i));
+    }
+    packed
+}
+
+/// The dot of each column's first places with the packed row.
+#[inline]
+fn column_dots<F: Field, const D: usize>(
+    split: &[[F::Packing; MOST_WEIGHTS]; D],
+    row: &[F::Packing],
+) -> [F::Packing; D]
+    requires some { 0 < D }
+    requires few { D ≤ MOST_COEFFICIENTS }
+    requires short { length row.now ≤ MOST_WEIGHTS }
+    requires each { All (λ c. length c ≡ MOST_WEIGHTS) split.now }
+    ensures { result ≡ map (λ c. pair F.Packing.ring c row.now) (map (take (length row.now)) split.now) }
+{
+    let n = row.len();
+    let mut columns = [&split[0][..n]; MOST_COEFFICIENTS];
+    for k in 0..D {
+        columns[k] = &split[k][..n];
+    }
+    let mut meter = Unmetered::new();
+    packed_basis_dot::<F, Unmetered, D>(&columns[..D], row, &mut meter)
+}
+
+/// The packed value with these coefficients.
+#[inline]
+fn joined<F: Field, EF: ExtensionField<F>, const D: usize>(
+    coefficients: [F::Packing; D],
+) -> EF::ExtensionPacking
+    requires { D ≡ EF.DIMENSION }
+    ensures { EF.ExtensionPacking.packed_coefficients result ≡ coefficients }
+{
+    let mut packed = EF::ExtensionPacking::ZERO;
+    for k in 0..D {
+        packed.set_packed_coefficient(k, coefficients[k]);
+    }
+    packed
+}
