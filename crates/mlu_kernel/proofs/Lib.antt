@@ -5,3 +5,4 @@ pub mod Groups
 pub mod PackedCoefficients
 pub mod BasisDots
 pub mod Columns
+pub mod FourRows

@@ -17,7 +17,7 @@ use Rattle.mlu_ring.proofs.Logical.{length-logical, logical-take_more, zip_block
 use Rattle.mlu_ring.proofs.Totals.{sum_below-one, weighted-append}
 use Rattle.mlu_kernel.specs.Kernels.{plus_rows}
 
-within : (y m z s : ℕ) → y < m → z < s → y * s + z < m * s
+pub within : (y m z s : ℕ) → y < m → z < s → y * s + z < m * s
 within y m z s h q =
     let le : y + 1 ≤ m = omega arith in
     let step : (y + 1) * s ≤ m * s = mul-le-mul_right s le in
@@ -28,7 +28,7 @@ module _ {R : Type 0} (ring : Ring R) (laws : RingLaws ring) where
   infixl 60 ◌⊗◌
   open ring use {sum as ◌⊕◌, product as ◌⊗◌, zero as 𝟘}
 
-  length-front : (w e : List R) → length (front ring w e) ≡ length e / length w
+  pub length-front : (w e : List R) → length (front ring w e) ≡ length e / length w
   unfolding front
   length-front w e = length-map-range_with_len (λ z. sum_below ring (length w) (λ y. get_or w y 𝟘 ⊗ get_or e (y * (length e / length w) + z) 𝟘)) 0 (length e / length w)
 
@@ -45,7 +45,7 @@ module _ {R : Type 0} (ring : Ring R) (laws : RingLaws ring) where
   get_or-plus_rows old w e z h = get_or-map-range_with_len (λ z. get_or old z 𝟘 ⊕ column (length old) w e z) 0 (length old) z z 𝟘 h (omega arith)
 
   -- a list with the entries of plus_rows
-  plus_rows_by_entry : (old w e sums : List R) → length sums ≡ length old → ((z : ℕ) → z < length old → get_or sums z 𝟘 ≡ get_or old z 𝟘 ⊕ column (length old) w e z) → sums ≡ plus_rows ring old w e
+  pub plus_rows_by_entry : (old w e sums : List R) → length sums ≡ length old → ((z : ℕ) → z < length old → get_or sums z 𝟘 ≡ get_or old z 𝟘 ⊕ column (length old) w e z) → sums ≡ plus_rows ring old w e
   plus_rows_by_entry old w e sums long at =
       ext_get_or 𝟘 sums (plus_rows ring old w e) (long ∙ sym (length-plus_rows old w e)) (λ z q. let place : z < length old = omega arith in at z place ∙ sym (get_or-plus_rows old w e z place))
 

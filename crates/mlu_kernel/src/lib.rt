@@ -14,6 +14,7 @@
 mod basis_dot;
 mod basis_split;
 mod dot;
+mod four_rows;
 pub mod one_row;
 mod prefix;
 

@@ -3,6 +3,7 @@ ghost use Rattle.std.specs.Prelude.{◌≡◌, ◌*◌, length, map};
 ghost use Rattle.mlu_ring.specs.Lanes.{logical};
 ghost use Rattle.mlu_kernel.specs.Kernels.{plus_rows};
 
+use crate::four_rows::{compress_by_four, takes_fours};
 use crate::one_row::add_row_times;
 use mlu_ring::{
     Algebra, ExtensionField, Field, Lanewise, PackedFieldExtension, PackedValue, row_of,
@@ -25,7 +26,11 @@ pub fn compress_prefix_to_packed_packed<F: Field, EF: ExtensionField<F>>(
         ≡ plus_rows EF.ring (logical EF.ExtensionPacking.ext_lanes out.old)
         (map (EF.ring.product w0) (logical EF.ExtensionPacking.ext_lanes eq1.now)) (map EF.embed chunk.now) }
 {
-    compress_prefix_to_packed_packed_kernel_eager(out, eq1, chunk, w0);
+    if takes_fours::<F, EF>() {
+        compress_by_four(out, eq1, chunk, w0);
+    } else {
+        compress_prefix_to_packed_packed_kernel_eager(out, eq1, chunk, w0);
+    }
 }
 
 /// [`compress_prefix_to_packed_packed`] row by row, each product reduced at once.

@@ -1,0 +1,66 @@
+use Rattle.std.proofs.Common.{◌≡◌, ◌<◌, ◌≤◌, ◌∙◌, map, length, get_or, ap, sym, arith}
+use Rattle.mlu_ring.specs.Lanes.{splat_of}
+use Rattle.mlu_ring.specs.Tables.{pair}
+use Rattle.mlu_ring.proofs.Tabulated.{length-tabulate, get_or-tabulate}
+use Rattle.mlu_ring.proofs.Zips.{zip_step, zip_whole}
+use Rattle.mlu_kernel.proofs.PackedCoefficients.{IsPackedExtension}
+use Rattle.mlu_kernel.proofs.FourRows.{products_of, map-four, plus_rows-products}
+use Rattle.mlu_kernel.proofs.four_rows.plus_four_products.Goals as goal
+
+pub loop-k-preserved : goal.loop-k-preserved
+loop-k-preserved g c =
+    let packing = g.F.Packing.Additive.ring in
+    let splat = splat_of g.F.Packing.PackedValue.WIDTH g.F.Packing.PackedValue.of_lanes in
+    let zero = g.F.Additive.ring.zero in
+    let dimension = g.EF.ExtensionField.DIMENSION in
+    let coefficients = g.EF.ExtensionField.coefficients in
+    let k = c.loop-k.k in
+    let ws = c.args.weights.now in
+    let bs = c.args.blocks.now in
+    let old = g.EF.ExtensionPacking.PackedFieldExtension.packed_coefficients c.args.packed in
+    let products = products_of g.F.Additive.ring packing g.F.Packing.PackedValue.WIDTH g.F.Packing.PackedValue.of_lanes dimension coefficients ws bs in
+    let read = map-four (λ w. get_or (coefficients w) c.loop-k.k zero) ws _ _ _ _ _ _ _ _ c.requires.weights
+    c.index-weights-0.is c.index-weights-1.is c.index-weights-2.is c.index-weights-3.is
+    (c.coefficient.ensures zero) (c.coefficient-in-loop-k.ensures zero) (c.coefficient-in-loop-k-2.ensures zero) (c.coefficient-in-loop-k-3.ensures zero) in
+    let long = g.met.EF.ExtensionPacking.PackedFieldExtension.coefficients_are.length-parts c.args.packed in
+    let below : c.loop-k.k < g.EF.ExtensionField.DIMENSION = omega (arith, c.DIMENSION-k-end.ensures) in
+    let within : c.loop-k.k < length (g.EF.ExtensionPacking.PackedFieldExtension.packed_coefficients c.args.packed) = omega (arith, long, below) in
+    let sum = g.met.F.Packing.Additive.adds _ _ _ c.add.ensures in
+    c.set_packed_coefficient.ensures
+    ∙ zip_step packing.sum old products _ k _ c.mixed_dot4-products.result c.add.result within (long ∙ sym (length-tabulate dimension _)) c.loop-k.invariant
+    (c.packed_coefficient.ensures _)
+    (c.mixed_dot4-products.ensures ∙ ap (λ cs. pair packing bs (map splat cs)) read ∙ sym (get_or-tabulate dimension _ k c.mixed_dot4-products.result below))
+    sum
+
+pub returns : goal.returns
+returns g c =
+    let packing = g.F.Packing.Additive.ring in
+    let dimension = g.EF.ExtensionField.DIMENSION in
+    let ext = g.EF.ExtensionPacking.PackedFieldExtension in
+    let met = g.met.EF.ExtensionPacking.PackedFieldExtension in
+    let base = g.F.Packing.PackedValue in
+    let laws : IsPackedExtension g.F.Additive.ring g.EF.Additive.ring g.F.Packing.Additive.ring g.EF.ExtensionPacking.Additive.ring g.F.Packing.PackedValue.WIDTH g.EF.ExtensionField.DIMENSION
+    g.F.Packing.PackedValue.lanes g.F.Packing.PackedValue.of_lanes g.EF.ExtensionField.coefficients g.EF.ExtensionPacking.PackedFieldExtension.ext_lanes g.EF.ExtensionPacking.PackedFieldExtension.of_ext_lanes
+    g.EF.ExtensionPacking.PackedFieldExtension.packed_coefficients g.EF.ExtensionPacking.PackedFieldExtension.of_packed_coefficients g.EF.Algebra.embed g.EF.ExtensionPacking.Algebra-2.embed = record {
+      ext_laws = g.met.EF.Additive.laws;
+      packing_laws = g.met.F.Packing.Additive.laws;
+      packed_laws = g.met.EF.ExtensionPacking.Additive.laws;
+      lanes_are = g.met.F.Packing.PackedValue.lanes_are;
+      lane_by_lane = g.met.F.Lanewise.lane_by_lane;
+      length-coefficients = g.met.EF.ExtensionField.coefficients_are.length-parts;
+      coefficients_sum = g.met.EF.ExtensionField.coefficients_sum;
+      coefficients_scale = g.met.EF.ExtensionField.coefficients_scale;
+      ext_lanes_are = met.lanes_are;
+      ext_lane_by_lane = met.lane_by_lane;
+      embeds_packing = met.embeds_packing;
+      packed_coefficients_are = met.coefficients_are;
+      transposed = met.transposed;
+    } in
+    let ws = c.args.weights.now in
+    let bs = c.args.blocks.now in
+    let old = ext.packed_coefficients c.args.packed in
+    let products = products_of g.F.Additive.ring packing base.WIDTH base.of_lanes dimension g.EF.ExtensionField.coefficients ws bs in
+    let long = met.coefficients_are.length-parts c.args.packed in
+    let end : g.EF.ExtensionField.DIMENSION ≡ c.loop-k.k = omega (arith, c.DIMENSION-k-end.ensures) in
+    plus_rows-products laws g.EF.ExtensionPacking.Algebra-1.embed met.embeds_element c.args.packed c.loop-k.sum ws bs (c.requires.weights ∙ sym c.requires.blocks)
+    (c.loop-k.invariant ∙ zip_whole packing.sum old products c.loop-k.k (long ∙ end) (long ∙ sym (length-tabulate dimension _)))

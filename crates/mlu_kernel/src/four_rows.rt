@@ -1,0 +1,153 @@
+//! Packed weights of rows, taken four lanes at a time.
+//!
+//! Each coefficient of an output grows by the weighted coefficients of four rows at once, which
+//! [`Field::mixed_dot4`] sums before it reduces. Rows are read from front to back, and the sums
+//! stand in the output, so no memory is taken.
+ghost use Rattle.std.specs.Prelude.{◌≡◌, ◌+◌, ◌*◌, ◌%◌, ◌≤◌, ◌<◌, ◌↔◌, IsTrue, length, map};
+ghost use Rattle.std.specs.Mem.{type_size};
+ghost use Rattle.mlu_ring.specs.Lanes.{logical};
+ghost use Rattle.mlu_ring.specs.Matrices.{row_at};
+ghost use Rattle.mlu_kernel.specs.Kernels.{plus_rows};
+
+use mlu_ring::{
+    Additive, Algebra, ExtensionField, Field, Lanewise, PackedFieldExtension, PackedValue, row_of,
+    row_of_width,
+};
+
+/// The bytes that an element must stay below, so that four of them stand on the stack.
+const SMALL_BYTES: usize = 1024;
+
+/// Whether a value takes few bytes: a constant, once the type is known.
+#[inline]
+fn is_small<T>(x: &T) -> bool
+    ensures { IsTrue result ↔ (type_size T.row < SMALL_BYTES) }
+{
+    std::mem::size_of_val(x) < SMALL_BYTES
+}
+
+/// Whether rows can be taken by four: lanes come in fours, and elements take few bytes. A constant,
+/// once the types are known.
+#[inline]
+pub(crate) fn takes_fours<F: Field, EF: ExtensionField<F>>() -> bool
+    ensures { IsTrue result → (F.Packing.WIDTH % 4 ≡ 0) × (type_size F.row < SMALL_BYTES)
+        × (type_size F.Packing.row < SMALL_BYTES) × (type_size EF.row < SMALL_BYTES) }
+{
+    F::Packing::WIDTH % 4 == 0
+        && is_small(&F::ZERO)
+        && is_small(&F::Packing::ZERO)
+        && is_small(&EF::ZERO)
+}
+
+/// The body of [`compress_prefix_to_packed_packed`](crate::compress_prefix_to_packed_packed) where
+/// rows can be taken by four.
+#[inline]
+pub(crate) fn compress_by_four<F: Field, EF: ExtensionField<F>>(
+    out: &mut [EF::ExtensionPacking],
+    eq1: &[EF::ExtensionPacking],
+    chunk: &[F],
+    w0: EF,
+)
+    requires rows { length chunk.now ≡ length eq1.now * (F.Packing.WIDTH * (length out.old * F.Packing.WIDTH)) }
+    requires fours { F.Packing.WIDTH % 4 ≡ 0 }
+    requires small { (type_size F.row < SMALL_BYTES) × (type_size F.Packing.row < SMALL_BYTES) × (type_size EF.row < SMALL_BYTES) }
+    ensures { logical EF.ExtensionPacking.ext_lanes out.new
+        ≡ plus_rows EF.ring (logical EF.ExtensionPacking.ext_lanes out.old)
+        (map (EF.ring.product w0) (logical EF.ExtensionPacking.ext_lanes eq1.now)) (map EF.embed chunk.now) }
+{
+    for i in 0..eq1.len() {
+        add_rows_by_four::<F, EF>(out, eq1[i].scale(w0), row_of(chunk, eq1.len(), i));
+    }
+}
+
+/// Adds a row for each lane of `weights`, times that lane.
+#[inline]
+fn add_rows_by_four<F: Field, EF: ExtensionField<F>>(
+    out: &mut [EF::ExtensionPacking],
+    weights: EF::ExtensionPacking,
+    rows: &[F],
+)
+    requires rows { length rows.now ≡ F.Packing.WIDTH * (length out.old * F.Packing.WIDTH) }
+    requires fours { F.Packing.WIDTH % 4 ≡ 0 }
+    requires small { (type_size F.row < SMALL_BYTES) × (type_size F.Packing.row < SMALL_BYTES) × (type_size EF.row < SMALL_BYTES) }
+    ensures { logical EF.ExtensionPacking.ext_lanes out.new
+        ≡ plus_rows EF.ring (logical EF.ExtensionPacking.ext_lanes out.old)
+        (EF.ExtensionPacking.ext_lanes weights) (map EF.embed rows.now) }
+{
+    let fours = F::Packing::WIDTH / 4;
+    for i in 0..fours {
+        let k = 4 * i;
+        let four = [
+            weights.ext_lane(k),
+            weights.ext_lane(k + 1),
+            weights.ext_lane(k + 2),
+            weights.ext_lane(k + 3),
+        ];
+        add_four_rows::<F, EF>(out, &four, row_of(rows, fours, i));
+    }
+}
+
+/// Adds four rows, each times its weight.
+#[inline]
+fn add_four_rows<F: Field, EF: ExtensionField<F>>(
+    out: &mut [EF::ExtensionPacking],
+    weights: &[EF],
+    rows: &[F],
+)
+    requires weights { length weights.now ≡ 4 }
+    requires rows { length rows.now ≡ 4 * (length out.old * F.Packing.WIDTH) }
+    requires small { (type_size F.row < SMALL_BYTES) × (type_size F.Packing.row < SMALL_BYTES) }
+    ensures { logical EF.ExtensionPacking.ext_lanes out.new
+        ≡ plus_rows EF.ring (logical EF.ExtensionPacking.ext_lanes out.old)
+        weights.now (map EF.embed rows.now) }
+{
+    let first = row_of(rows, 4, 0);
+    let second = row_of(rows, 4, 1);
+    let third = row_of(rows, 4, 2);
+    let fourth = row_of(rows, 4, 3);
+    for z in 0..out.len() {
+        let blocks = [
+            block::<F>(first, z),
+            block::<F>(second, z),
+            block::<F>(third, z),
+            block::<F>(fourth, z),
+        ];
+        out[z] = plus_four_products::<F, EF>(out[z], &blocks, weights);
+    }
+}
+
+/// The packed value at place `z` of a row.
+#[inline]
+fn block<F: Lanewise>(row: &[F], z: usize) -> F::Packing
+    requires { (z + 1) * F.Packing.WIDTH ≤ length row.now }
+    ensures { F.Packing.lanes result ≡ row_at F.Packing.WIDTH row.now z }
+{
+    F::Packing::load(row_of_width(row, F::Packing::WIDTH, z))
+}
+
+/// The packed value, and added to it four blocks, each times its weight.
+#[inline]
+fn plus_four_products<F: Field, EF: ExtensionField<F>>(
+    packed: EF::ExtensionPacking,
+    blocks: &[F::Packing],
+    weights: &[EF],
+) -> EF::ExtensionPacking
+    requires blocks { length blocks.now ≡ 4 }
+    requires weights { length weights.now ≡ 4 }
+    requires small { type_size F.row < SMALL_BYTES }
+    ensures { EF.ExtensionPacking.ext_lanes result
+        ≡ plus_rows EF.ring (EF.ExtensionPacking.ext_lanes packed)
+        weights.now (map EF.embed (logical F.Packing.lanes blocks.now)) }
+{
+    let mut sum = packed;
+    for k in 0..EF::DIMENSION {
+        let coefficients = [
+            weights[0].coefficient(k),
+            weights[1].coefficient(k),
+            weights[2].coefficient(k),
+            weights[3].coefficient(k),
+        ];
+        let products = F::mixed_dot4(blocks, &coefficients);
+        sum.set_packed_coefficient(k, sum.packed_coefficient(k) + products);
+    }
+    sum
+}
