@@ -1,7 +1,8 @@
 -- The coefficients of packed weights, one list for each coefficient.
 use Rattle.std.specs.Prelude.{◌≡◌, ◌<◌, ◌≤◌, ℕ, List, map, length, take, slice_index_or}
 use Rattle.std.specs.List.{All, range_with_len}
-use Rattle.mlu_kernel.specs.declared.basis_split.TheConstants.{MOST_WEIGHTS, MOST_COEFFICIENTS, SMALL_BYTES}
+use Rattle.mlu_kernel.specs.declared.basis_split.TheConstants.{MOST_WEIGHTS, MOST_COEFFICIENTS}
+use Rattle.mlu_kernel.specs.declared.small.TheConstants.{SMALL_BYTES}
 
 -- coefficient c of each weight
 abbrev pub column : {Q P : Type 0} → (Q → List P) → P → List Q → ℕ → List P

@@ -3,7 +3,7 @@
 //! A row of the base times packed weights costs a dot for each coefficient of the weights. So the
 //! coefficients are split into columns on the stack, once for all rows, and each row is loaded
 //! once and asks [`packed_basis_dot`] for one dot a column.
-ghost use Rattle.std.specs.Prelude.{◌≡◌, ◌*◌, ◌<◌, ◌≤◌, ◌↔◌, IsTrue, length, map, take};
+ghost use Rattle.std.specs.Prelude.{◌≡◌, ◌*◌, ◌<◌, ◌≤◌, length, map, take};
 ghost use Rattle.std.specs.List.{All};
 ghost use Rattle.std.specs.Mem.{type_size};
 ghost use Rattle.mlu_ring.specs.Lanes.{logical};
@@ -13,6 +13,7 @@ ghost use Rattle.mlu_ring.specs.Tables.{pair};
 ghost use Rattle.mlu_kernel.specs.Columns.{column, AreColumns};
 
 use crate::basis_dot::packed_basis_dot;
+use crate::small::SMALL_BYTES;
 use mlu_ring::{
     Additive, ExtensionField, Field, Lanewise, PackedFieldExtension, PackedValue, Unmetered,
     row_of, row_of_width,
@@ -23,18 +24,6 @@ pub(crate) const MOST_WEIGHTS: usize = 128;
 
 /// The columns that a dot takes.
 pub(crate) const MOST_COEFFICIENTS: usize = 8;
-
-/// The bytes that a packing must stay below, so that the columns take less than a megabyte of
-/// stack. Residues have 32 at eight lanes.
-pub(crate) const SMALL_BYTES: usize = 1024;
-
-/// Whether a value takes few bytes: a constant, once the type is known.
-#[inline]
-pub(crate) fn is_small<T>(x: &T) -> bool
-    ensures { IsTrue result ↔ (type_size T.row < SMALL_BYTES) }
-{
-    std::mem::size_of_val(x) < SMALL_BYTES
-}
 
 /// The coefficients of the weights, a column for each. The places past the weights are zeros.
 #[inline]

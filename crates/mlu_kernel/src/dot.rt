@@ -5,10 +5,9 @@ ghost use Rattle.mlu_ring.specs.Lanes.{logical};
 ghost use Rattle.mlu_kernel.specs.Columns.{AreColumns};
 ghost use Rattle.mlu_kernel.specs.Kernels.{double_sum};
 
-use crate::basis_split::{
-    MOST_COEFFICIENTS, MOST_WEIGHTS, SMALL_BYTES, is_small, row_dot_by_columns, split_coefficients,
-};
+use crate::basis_split::{MOST_COEFFICIENTS, MOST_WEIGHTS, row_dot_by_columns, split_coefficients};
 use crate::one_row::{lane_sum, row_dot_in_lanes};
+use crate::small::{SMALL_BYTES, is_small};
 use mlu_ring::{
     Additive, Algebra, ExtensionField, Field, Lanewise, PackedFieldExtension, PackedValue, row_of,
 };

@@ -3,27 +3,17 @@
 //! Each coefficient of an output grows by the weighted coefficients of four rows at once, which
 //! [`Field::mixed_dot4`] sums before it reduces. Rows are read from front to back, and the sums
 //! stand in the output, so no memory is taken.
-ghost use Rattle.std.specs.Prelude.{◌≡◌, ◌+◌, ◌*◌, ◌%◌, ◌≤◌, ◌<◌, ◌↔◌, IsTrue, length, map};
+ghost use Rattle.std.specs.Prelude.{◌≡◌, ◌+◌, ◌*◌, ◌%◌, ◌≤◌, ◌<◌, IsTrue, length, map};
 ghost use Rattle.std.specs.Mem.{type_size};
 ghost use Rattle.mlu_ring.specs.Lanes.{logical};
 ghost use Rattle.mlu_ring.specs.Matrices.{row_at};
 ghost use Rattle.mlu_kernel.specs.Kernels.{plus_rows};
 
+use crate::small::{SMALL_BYTES, is_small};
 use mlu_ring::{
     Additive, Algebra, ExtensionField, Field, Lanewise, PackedFieldExtension, PackedValue, row_of,
     row_of_width,
 };
-
-/// The bytes that an element must stay below, so that four of them stand on the stack.
-const SMALL_BYTES: usize = 1024;
-
-/// Whether a value takes few bytes: a constant, once the type is known.
-#[inline]
-fn is_small<T>(x: &T) -> bool
-    ensures { IsTrue result ↔ (type_size T.row < SMALL_BYTES) }
-{
-    std::mem::size_of_val(x) < SMALL_BYTES
-}
 
 /// Whether rows can be taken by four: lanes come in fours, and elements take few bytes. A constant,
 /// once the types are known.

@@ -17,6 +17,7 @@ mod dot;
 mod four_rows;
 pub mod one_row;
 mod prefix;
+mod small;
 
 pub use basis_dot::packed_basis_dot;
 pub use dot::{compress_hi_dot_packed, compress_hi_dot_packed_eager};
