@@ -12,19 +12,10 @@ use std::simd::prelude::*;
 /// `2^28 - 2`, which is `2^32` modulo the modulus.
 const FOLD: u64 = 268435454;
 
-/// The residues of lanes below twice the modulus, as this asks.
-#[inline(always)]
-pub fn reduce_each_once<const W: usize>(words: Simd<u32, W>) -> Simd<u32, W>
-    requires { (j : ℕ) → j < W → slice_index words j < 2 * MODULUS }
-    ensures { (j : ℕ) → j < W → slice_index result j ≡ slice_index words.entry j % MODULUS }
-{
-    least(words, differences(words, all(MODULUS)))
-}
-
 /// The residues of any lanes.
 ///
-/// As `reduce_word`, but by a product and a shift by 29, after which 32 bits are left with no remainder
-/// taken: three vector products a pair of lanes. Of one word the compiler makes wider products of this.
+/// Folded by a product and shifted by 29, they are seen to fit 32 bits: three vector products a pair of
+/// lanes. For one word `reduce_word` is better, since there the compiler makes wider products of this.
 #[inline(always)]
 pub fn reduce_each_word<const W: usize>(words: Simd<u64, W>) -> Simd<u32, W>
     requires { (j : ℕ) → j < W → slice_index words j < 2 ^ 64 }
@@ -58,4 +49,13 @@ fn folded_quotients<const W: usize>(folded: Simd<u64, W>) -> Simd<u64, W>
     let high = shifted_right(folded, 29);
     let scaled = wide_products(high, wide_all(RECIPROCAL));
     shifted_right(scaled, 33)
+}
+
+// The residues of lanes below twice the modulus.
+#[inline(always)]
+fn reduce_each_once<const W: usize>(words: Simd<u32, W>) -> Simd<u32, W>
+    requires { (j : ℕ) → j < W → slice_index words j < 2 * MODULUS }
+    ensures { (j : ℕ) → j < W → slice_index result j ≡ slice_index words.entry j % MODULUS }
+{
+    least(words, differences(words, all(MODULUS)))
 }
