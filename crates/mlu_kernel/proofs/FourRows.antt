@@ -1,14 +1,13 @@
 -- Blocks added to packed values, each times its weight.
-use Rattle.std.proofs.Common.{◌≡◌, ℕ, zero, suc, ◌+◌, ◌*◌, ◌/◌, ◌%◌, ◌<◌, ◌≤◌, List, [], ◌∷◌, ◌++◌, map, length, take, drop, set, get_or, replicate, refl, sym, ap, ◌∙◌, arith}
+use Rattle.std.proofs.Common.{◌≡◌, ℕ, zero, suc, ◌+◌, ◌*◌, ◌/◌, ◌%◌, ◌<◌, ◌≤◌, List, [], ◌∷◌, ◌++◌, map, length, take, drop, set, get_or, replicate, sym, ap, ◌∙◌, arith}
 use Rattle.std.specs.Simd.Lanes.{zip2}
 use Rattle.std.proofs.Math.Nat.{mul-div_cancel_left, mul_assoc}
 use Rattle.std.proofs.lemmas.List.{ext_get_or, get_or-map, get_or-take, get_or-drop, get_or-replicate, length-map, length-replicate, length-take-le, length-drop, append_assoc, take_more}
-use Rattle.std.proofs.lemmas.Simd.{length-zip2, get_or-zip2}
+use Rattle.std.proofs.lemmas.Simd.{get_or-zip2}
 use Rattle.mlu_ring.specs.Ring.{Ring, RingLaws}
-use Rattle.mlu_ring.specs.Sums.{sum_below}
 use Rattle.mlu_ring.specs.Tables.{pair, front}
 use Rattle.mlu_ring.specs.Matrices.{row_at}
-use Rattle.mlu_ring.specs.Lanes.{IsLists, IsLaneByLane, splat_of, logical}
+use Rattle.mlu_ring.specs.Lanes.{splat_of, logical}
 use Rattle.mlu_ring.proofs.SumsBelow.{sum_below-same}
 use Rattle.mlu_ring.proofs.Tabulated.{tabulate, length-tabulate, get_or-tabulate}
 use Rattle.mlu_ring.proofs.Totals.{pair-nil, pair-cons}

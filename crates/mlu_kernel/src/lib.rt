@@ -6,7 +6,9 @@
 //! their lanes, joined in order, are the logical weights that the contracts name.
 //!
 //! Each kernel has an eager form, which reduces each product at once and serves every width and
-//! dimension. None of them takes memory.
+//! dimension. Where elements are small enough for the stack, the dot goes by columns of
+//! coefficients and the prefix kernel by four rows: both reduce once per four products. None of
+//! them takes memory.
 //!
 //! Stands on `mlu_ring`; the split tables of `mlu_eq` stand on it.
 #![tactic(auto)]
