@@ -24,7 +24,6 @@ enum Row {
     FourRows,
     NoRow,
     PlainSums,
-    BothRoutes,
 }
 
 /// Whether the row holds.
@@ -40,7 +39,6 @@ fn holds<F: Field + Sample, EF: ExtensionField<F> + Sample>(
         Row::FourRows => four_rows_added::<F, EF>(alloc),
         Row::NoRow => dot_of_no_row::<F, EF>(alloc),
         Row::PlainSums => kernels_agree::<F, EF>(alloc),
-        Row::BothRoutes => routes_agree::<F, EF>(alloc),
     }
 }
 
@@ -67,33 +65,16 @@ where
 
 /// [`holds`] over an extension of residues. The bound names its field, since at products a call with
 /// two types as parameters is more than the prover takes.
-fn over_residues<const W: usize, EF: ExtensionField<BabyBear<W>> + Sample>(
+fn over_residues<EF: ExtensionField<BabyBear<4>> + Sample>(
     alloc: Global,
     row: Row,
-) -> Result<bool, AllocError>
-where
-    Lanes<BabyBear<W>, W>: LaneWidth<W>,
-    requires { W < 32 }
-{
-    holds::<BabyBear<W>, EF>(alloc, row)
-}
-
-/// [`holds`] over products of eight copies, the most that are split by coefficients.
-fn eight_copies<const W: usize>(alloc: Global, row: Row) -> Result<bool, AllocError>
-where
-    Lanes<BabyBear<W>, W>: LaneWidth<W>,
-    requires { W < 32 }
-{
-    over_residues::<W, ProductAlgebra<BabyBear<W>, 8>>(alloc, row)
+) -> Result<bool, AllocError> {
+    holds::<BabyBear<4>, EF>(alloc, row)
 }
 
 /// [`holds`] over products of nine copies.
-fn nine_copies<const W: usize>(alloc: Global, row: Row) -> Result<bool, AllocError>
-where
-    Lanes<BabyBear<W>, W>: LaneWidth<W>,
-    requires { W < 32 }
-{
-    over_residues::<W, ProductAlgebra<BabyBear<W>, 9>>(alloc, row)
+fn nine_copies(alloc: Global, row: Row) -> Result<bool, AllocError> {
+    over_residues::<ProductAlgebra<BabyBear<4>, 9>>(alloc, row)
 }
 
 #[test]
@@ -104,7 +85,7 @@ fn worked_dots(rt: HostRuntime) -> Result<(), Fail> {
     assert!(rt; quartics::<4>(rt.alloc(), Row::OneRow)?);
     assert!(rt; residues::<4>(rt.alloc(), Row::NoRow)?);
     assert!(rt; quartics::<4>(rt.alloc(), Row::NoRow)?);
-    assert!(rt; nine_copies::<4>(rt.alloc(), Row::NoRow)?);
+    assert!(rt; nine_copies(rt.alloc(), Row::NoRow)?);
     Ok(())
 }
 
@@ -130,42 +111,6 @@ fn plain_sums_over_the_quartic(rt: HostRuntime) -> Result<(), Fail> {
     assert!(rt; quartics::<2>(rt.alloc(), Row::PlainSums)?);
     assert!(rt; quartics::<4>(rt.alloc(), Row::PlainSums)?);
     assert!(rt; quartics::<8>(rt.alloc(), Row::PlainSums)?);
-    Ok(())
-}
-
-#[test]
-fn routes_at_one_lane(rt: HostRuntime) -> Result<(), Fail> {
-    assert!(rt; residues::<1>(rt.alloc(), Row::BothRoutes)?);
-    assert!(rt; quartics::<1>(rt.alloc(), Row::BothRoutes)?);
-    assert!(rt; eight_copies::<1>(rt.alloc(), Row::BothRoutes)?);
-    assert!(rt; nine_copies::<1>(rt.alloc(), Row::BothRoutes)?);
-    Ok(())
-}
-
-#[test]
-fn routes_at_two_lanes(rt: HostRuntime) -> Result<(), Fail> {
-    assert!(rt; residues::<2>(rt.alloc(), Row::BothRoutes)?);
-    assert!(rt; quartics::<2>(rt.alloc(), Row::BothRoutes)?);
-    assert!(rt; eight_copies::<2>(rt.alloc(), Row::BothRoutes)?);
-    assert!(rt; nine_copies::<2>(rt.alloc(), Row::BothRoutes)?);
-    Ok(())
-}
-
-#[test]
-fn routes_at_four_lanes(rt: HostRuntime) -> Result<(), Fail> {
-    assert!(rt; residues::<4>(rt.alloc(), Row::BothRoutes)?);
-    assert!(rt; quartics::<4>(rt.alloc(), Row::BothRoutes)?);
-    assert!(rt; eight_copies::<4>(rt.alloc(), Row::BothRoutes)?);
-    assert!(rt; nine_copies::<4>(rt.alloc(), Row::BothRoutes)?);
-    Ok(())
-}
-
-#[test]
-fn routes_at_eight_lanes(rt: HostRuntime) -> Result<(), Fail> {
-    assert!(rt; residues::<8>(rt.alloc(), Row::BothRoutes)?);
-    assert!(rt; quartics::<8>(rt.alloc(), Row::BothRoutes)?);
-    assert!(rt; eight_copies::<8>(rt.alloc(), Row::BothRoutes)?);
-    assert!(rt; nine_copies::<8>(rt.alloc(), Row::BothRoutes)?);
     Ok(())
 }
 
@@ -334,40 +279,6 @@ fn kernels_agree<F: Field + Sample, EF: ExtensionField<F> + Sample>(
             {
                 return Ok(false);
             }
-        }
-    }
-    Ok(true)
-}
-
-/// Whether the dot gives what its eager form does, for `n` packed weights and two rows.
-fn routes_agree_at<F: Field + Sample, EF: ExtensionField<F> + Sample>(
-    alloc: Global,
-    rng: &mut Pcg32,
-    n: usize,
-) -> Result<bool, AllocError>
-    requires weights { n < 256 }
-    requires lanes { F.Packing.WIDTH < 32 }
-{
-    let row_length = n * F::Packing::WIDTH;
-    let weights = drawn::<EF>(alloc, rng, row_length)?;
-    let chunk = drawn::<F>(alloc, rng, 2 * row_length)?;
-    let eq0 = drawn::<EF>(alloc, rng, 2)?;
-    let eq1 = packed::<F, EF>(alloc, &weights, n)?;
-    let eager = compress_hi_dot_packed_eager::<F, EF>(&eq1, &chunk, &eq0);
-    Ok(compress_hi_dot_packed::<F, EF>(&eq1, &chunk, &eq0) == eager)
-}
-
-/// Whether the dot gives what its eager form does, for few weights, and for as many as are split
-/// by coefficients and some more.
-fn routes_agree<F: Field + Sample, EF: ExtensionField<F> + Sample>(
-    alloc: Global,
-) -> Result<bool, AllocError>
-    requires { F.Packing.WIDTH < 32 }
-{
-    let mut rng = Pcg32::new(3, 54);
-    for n in 0..131 {
-        if (n <= 40 || n >= 126) && !routes_agree_at::<F, EF>(alloc, &mut rng, n)? {
-            return Ok(false);
         }
     }
     Ok(true)
