@@ -47,8 +47,8 @@ fn is_forty<F: Field, EF: ExtensionField<F>>(
 
 #[test]
 fn compresses_and_evaluates(rt: HostRuntime) -> Result<(), Fail> {
-    assert!(rt; residues::<4>(rt.alloc(), Row::CompressesPrefix)?);
-    assert!(rt; residues::<4>(rt.alloc(), Row::CompressesSuffix)?);
+    assert!(rt; residues(rt.alloc(), Row::CompressesPrefix)?);
+    assert!(rt; residues(rt.alloc(), Row::CompressesSuffix)?);
     Ok(())
 }
 
@@ -78,7 +78,7 @@ fn sums_to<F: Field, EF: ExtensionField<F>>(
 
 #[test]
 fn scale_of_a_constant(rt: HostRuntime) -> Result<(), Fail> {
-    assert!(rt; residues::<4>(rt.alloc(), Row::ScaleOfAConstant)?);
+    assert!(rt; residues(rt.alloc(), Row::ScaleOfAConstant)?);
     Ok(())
 }
 
@@ -113,8 +113,8 @@ pub fn value_of_lanes<F: Field, EF: ExtensionField<F>>(alloc: Global) -> Result<
 
 #[test]
 fn both_constructors(rt: HostRuntime) -> Result<(), Fail> {
-    assert!(rt; residues::<4>(rt.alloc(), Row::BothConstructors)?);
-    assert!(rt; residues::<4>(rt.alloc(), Row::ValueOfLanes)?);
+    assert!(rt; residues(rt.alloc(), Row::BothConstructors)?);
+    assert!(rt; residues(rt.alloc(), Row::ValueOfLanes)?);
     Ok(())
 }
 
@@ -133,7 +133,7 @@ pub fn adds_one_entry<F: Field, EF: ExtensionField<F>>(alloc: Global) -> Result<
 
 #[test]
 fn one_entry_of_sixteen(rt: HostRuntime) -> Result<(), Fail> {
-    assert!(rt; residues::<4>(rt.alloc(), Row::OneEntryOfSixteen)?);
+    assert!(rt; residues(rt.alloc(), Row::OneEntryOfSixteen)?);
     Ok(())
 }
 
@@ -188,6 +188,6 @@ pub fn evaluates_monomials<F: Field, EF: ExtensionField<F>>(
 
 #[test]
 fn value_in_the_extension(rt: HostRuntime) -> Result<(), Fail> {
-    assert!(rt; quartics::<4>(rt.alloc(), Row::ValueInTheExtension)?);
+    assert!(rt; quartics(rt.alloc(), Row::ValueInTheExtension)?);
     Ok(())
 }

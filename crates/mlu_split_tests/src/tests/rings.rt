@@ -1,11 +1,10 @@
 //! The rings that the rows are tried at. Only the functions here name them: each function that does
 //! pays for every implementation that the rings stand on, and a call of these pays for none.
-ghost use Rattle.std.specs.Prelude.{◌≤◌};
 
-use super::{compressions, runs, splits, successors};
+use super::{compressions, runs, successors};
 use mlu_ext::QuarticExtension;
-use mlu_lanes::{BabyBear, LaneWidth, Lanes, WrappingU64};
-use mlu_ring::{ExtensionField, Field, Sample};
+use mlu_lanes::{BabyBear, WrappingU64};
+use mlu_ring::{ExtensionField, Field};
 use std::alloc::{AllocError, Global};
 
 /// What is tried.
@@ -13,7 +12,6 @@ pub enum Row {
     BothConstructors,
     CompressesPrefix,
     CompressesSuffix,
-    DrawnTables,
     MovedConstant,
     MovedPrefix,
     MovedSuffix,
@@ -32,17 +30,11 @@ pub enum Row {
 }
 
 /// Whether the row holds.
-fn holds<F: Field + Sample, EF: ExtensionField<F> + Sample>(
-    alloc: Global,
-    row: Row,
-) -> Result<bool, AllocError>
-    requires { F.Packing.WIDTH ≤ 8 }
-{
+fn holds<F: Field, EF: ExtensionField<F>>(alloc: Global, row: Row) -> Result<bool, AllocError> {
     match row {
         Row::BothConstructors => compressions::constructs::<F, EF>(alloc),
         Row::CompressesPrefix => compressions::compresses_prefix::<F, EF>(alloc),
         Row::CompressesSuffix => compressions::compresses_suffix::<F, EF>(alloc),
-        Row::DrawnTables => splits::answer_as_plain::<F, EF>(alloc),
         Row::MovedConstant => successors::moves_constant::<F, EF>(alloc),
         Row::MovedPrefix => successors::moves_prefix::<F, EF>(alloc),
         Row::MovedSuffix => successors::moves_suffix::<F, EF>(alloc),
@@ -61,30 +53,23 @@ fn holds<F: Field + Sample, EF: ExtensionField<F> + Sample>(
     }
 }
 
-/// [`holds`] over the base field, whose packing has `W` lanes.
-pub fn residues<const W: usize>(alloc: Global, row: Row) -> Result<bool, AllocError>
-where
-    Lanes<BabyBear<W>, W>: LaneWidth<W>,
-    requires { W ≤ 8 }
-{
-    holds::<BabyBear<W>, BabyBear<W>>(alloc, row)
+/// The base field, whose packing has four lanes.
+type Bear = BabyBear<4>;
+
+/// [`holds`] over the base field.
+pub fn residues(alloc: Global, row: Row) -> Result<bool, AllocError> {
+    holds::<Bear, Bear>(alloc, row)
 }
 
 /// [`holds`] over the quartic extension.
-pub fn quartics<const W: usize>(alloc: Global, row: Row) -> Result<bool, AllocError>
-where
-    Lanes<BabyBear<W>, W>: LaneWidth<W>,
-    requires { W ≤ 8 }
-{
-    holds::<BabyBear<W>, QuarticExtension<BabyBear<W>>>(alloc, row)
+pub fn quartics(alloc: Global, row: Row) -> Result<bool, AllocError> {
+    holds::<Bear, QuarticExtension<Bear>>(alloc, row)
 }
 
 /// Whether the images of a split table of residues in the words are right, and a value there, where
 /// twice the highest bit is zero.
 pub fn words(alloc: Global) -> Result<bool, AllocError> {
     let images = [10066329600, 10].map(WrappingU64::<4>::new);
-    let has_images = compressions::has_images::<BabyBear<4>, BabyBear<4>, WrappingU64<4>>(
-        alloc, &images,
-    )?;
+    let has_images = compressions::has_images::<Bear, Bear, WrappingU64<4>>(alloc, &images)?;
     Ok(has_images && compressions::vanishes(alloc, WrappingU64::<4>::new(1 << 63))?)
 }

@@ -93,19 +93,19 @@ pub fn is_the_function<R: PrimeCharacteristicRing>(alloc: Global) -> Result<bool
 
 #[test]
 fn sixteen_in_parts(rt: HostRuntime) -> Result<(), Fail> {
-    assert!(rt; residues::<4>(rt.alloc(), Row::RunsOfSixteen)?);
-    assert!(rt; quartics::<4>(rt.alloc(), Row::RunsOfSixteen)?);
+    assert!(rt; residues(rt.alloc(), Row::RunsOfSixteen)?);
+    assert!(rt; quartics(rt.alloc(), Row::RunsOfSixteen)?);
     Ok(())
 }
 
 #[test]
 fn moved_table_in_parts(rt: HostRuntime) -> Result<(), Fail> {
-    assert!(rt; residues::<4>(rt.alloc(), Row::RunsMoved)?);
+    assert!(rt; residues(rt.alloc(), Row::RunsMoved)?);
     Ok(())
 }
 
 #[test]
 fn function_of_its_points(rt: HostRuntime) -> Result<(), Fail> {
-    assert!(rt; residues::<4>(rt.alloc(), Row::TheFunction)?);
+    assert!(rt; residues(rt.alloc(), Row::TheFunction)?);
     Ok(())
 }

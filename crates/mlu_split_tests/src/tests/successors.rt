@@ -65,8 +65,8 @@ pub fn has_rows_by_rule<F: Field, EF: ExtensionField<F>>(
 
 #[test]
 fn next_rows_of_a_point(rt: HostRuntime) -> Result<(), Fail> {
-    assert!(rt; residues::<4>(rt.alloc(), Row::NextRows)?);
-    assert!(rt; residues::<4>(rt.alloc(), Row::RowsByRule)?);
+    assert!(rt; residues(rt.alloc(), Row::NextRows)?);
+    assert!(rt; residues(rt.alloc(), Row::RowsByRule)?);
     Ok(())
 }
 
@@ -143,9 +143,9 @@ fn meets<F: Field, EF: ExtensionField<F>>(
 
 #[test]
 fn values_at_the_next_rows(rt: HostRuntime) -> Result<(), Fail> {
-    assert!(rt; residues::<4>(rt.alloc(), Row::ValuesAtTheNextRows)?);
-    assert!(rt; residues::<4>(rt.alloc(), Row::ScaledNextRows)?);
-    assert!(rt; residues::<4>(rt.alloc(), Row::ValuesByRule)?);
+    assert!(rt; residues(rt.alloc(), Row::ValuesAtTheNextRows)?);
+    assert!(rt; residues(rt.alloc(), Row::ScaledNextRows)?);
+    assert!(rt; residues(rt.alloc(), Row::ValuesByRule)?);
     Ok(())
 }
 
@@ -179,8 +179,8 @@ pub fn moves_constant<F: Field, EF: ExtensionField<F>>(alloc: Global) -> Result<
 
 #[test]
 fn compressed_by_the_moved_table(rt: HostRuntime) -> Result<(), Fail> {
-    assert!(rt; residues::<4>(rt.alloc(), Row::MovedPrefix)?);
-    assert!(rt; residues::<4>(rt.alloc(), Row::MovedSuffix)?);
-    assert!(rt; residues::<4>(rt.alloc(), Row::MovedConstant)?);
+    assert!(rt; residues(rt.alloc(), Row::MovedPrefix)?);
+    assert!(rt; residues(rt.alloc(), Row::MovedSuffix)?);
+    assert!(rt; residues(rt.alloc(), Row::MovedConstant)?);
     Ok(())
 }
