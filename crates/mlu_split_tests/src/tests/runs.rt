@@ -40,10 +40,9 @@ fn leave_in_parts<F: Field, EF: ExtensionField<F>>(
     poly: &Poly<F>,
     plain: &[i32],
     moved: &[i32],
-) -> Result<bool, AllocError> {
-    if poly.num_variables() < split.num_variables() {
-        return Ok(false);
-    }
+) -> Result<bool, AllocError>
+    requires { length (split_entries EF.ring split.now) ≤ length poly.now }
+{
     for parts in PARTS {
         if parts == 0 || !leave(alloc, split, poly.as_view(), parts, plain, moved)? {
             return Ok(false);
