@@ -61,18 +61,18 @@ pub fn table_and_points(
     ensures { IsOutcome (AreThreeTexts table.now first.now second.now) IsTableOfPoints ArePointsOf (λ x all. all ≡ x) result }
 {
     let entries = count(table).ok_or(Fault::Number)?;
-    let coordinates = count(first).ok_or(Fault::Number)?;
-    let others = count(second).ok_or(Fault::Number)?;
+    let firsts = count(first).ok_or(Fault::Number)?;
+    let seconds = count(second).ok_or(Fault::Number)?;
     let variables = variables(entries).ok_or(Fault::Length)?;
-    if variables != coordinates {
+    if variables != firsts {
         return Err(Fault::Arity);
     }
-    if variables != others {
+    if variables != seconds {
         return Err(Fault::Arity);
     }
     let table = read(alloc, table, entries)?;
-    let first = read(alloc, first, coordinates)?;
-    let second = read(alloc, second, others)?;
+    let first = read(alloc, first, firsts)?;
+    let second = read(alloc, second, seconds)?;
     Ok((Poly::new(table), Point::new(first), Point::new(second)))
 }
 

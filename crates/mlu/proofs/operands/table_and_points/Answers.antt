@@ -6,8 +6,8 @@ use Rattle.mlu.proofs.operands.table_and_points.Goals as goal
 pub returns-in_err-variables : goal.returns-in_err-variables
 returns-in_err-variables c =
     let e = rw c.in_ok-entries.ensures.ok_part at c.count.ensures in
-    let p = rw c.in_ok-coordinates.ensures.ok_part at c.count-2.ensures in
-    let q = rw c.in_ok-others.ensures.ok_part at c.count-3.ensures in
+    let p = rw c.in_ok-firsts.ensures.ok_part at c.count-2.ensures in
+    let q = rw c.in_ok-seconds.ensures.ok_part at c.count-3.ensures in
     let none = rw c.in_err-variables.ensures.ok_part at c.variables.ensures in
     outcome-length _ _ _ _ c.from_residual-in_err-variables.result _ c.from_residual-in_err-variables.ensures.1
     (fault-of-None _ _ _ c.in_err-variables.ensures.value c.in_err-variables.ensures.ok_part)
@@ -15,53 +15,53 @@ returns-in_err-variables c =
     (e.1, p.1, q.1)
     (not-IsTableOfPoints _ _ _ _ 0 _ _ e p q none)
 
-pub returns-then-variables-coordinates : goal.returns-then-variables-coordinates
-returns-then-variables-coordinates c =
+pub returns-then-variables-firsts : goal.returns-then-variables-firsts
+returns-then-variables-firsts c =
     let e = rw c.in_ok-entries.ensures.ok_part at c.count.ensures in
-    let p = rw c.in_ok-coordinates.ensures.ok_part at c.count-2.ensures in
-    let q = rw c.in_ok-others.ensures.ok_part at c.count-3.ensures in
+    let p = rw c.in_ok-firsts.ensures.ok_part at c.count-2.ensures in
+    let q = rw c.in_ok-seconds.ensures.ok_part at c.count-3.ensures in
     let power = rw c.in_ok-variables.ensures.ok_part at c.variables.ensures in (
       (e.0, p.0, q.0),
       (e.1, p.1, q.1),
       IsTableOfPoints-counted _ _ _ _ _ _ _ e p q power,
-      λ both. not-IsPointOf _ _ _ _ _ e p power c.if-variables-coordinates.true both.0,
+      λ both. not-IsPointOf _ _ _ _ _ e p power c.if-variables-firsts.true both.0,
     )
 
-pub returns-then-variables-others : goal.returns-then-variables-others
-returns-then-variables-others c =
+pub returns-then-variables-seconds : goal.returns-then-variables-seconds
+returns-then-variables-seconds c =
     let e = rw c.in_ok-entries.ensures.ok_part at c.count.ensures in
-    let p = rw c.in_ok-coordinates.ensures.ok_part at c.count-2.ensures in
-    let q = rw c.in_ok-others.ensures.ok_part at c.count-3.ensures in
+    let p = rw c.in_ok-firsts.ensures.ok_part at c.count-2.ensures in
+    let q = rw c.in_ok-seconds.ensures.ok_part at c.count-3.ensures in
     let power = rw c.in_ok-variables.ensures.ok_part at c.variables.ensures in (
       (e.0, p.0, q.0),
       (e.1, p.1, q.1),
       IsTableOfPoints-counted _ _ _ _ _ _ _ e p q power,
-      λ both. not-IsPointOf _ _ _ _ _ e q power c.if-variables-others.true both.1,
+      λ both. not-IsPointOf _ _ _ _ _ e q power c.if-variables-seconds.true both.1,
     )
 
 pub returns-in_err-table : goal.returns-in_err-table
 returns-in_err-table c =
     let e = rw c.in_ok-entries.ensures.ok_part at c.count.ensures in
-    let p = rw c.in_ok-coordinates.ensures.ok_part at c.count-2.ensures in
-    let q = rw c.in_ok-others.ensures.ok_part at c.count-3.ensures in
+    let p = rw c.in_ok-firsts.ensures.ok_part at c.count-2.ensures in
+    let q = rw c.in_ok-seconds.ensures.ok_part at c.count-3.ensures in
     let power = rw c.in_ok-variables.ensures.ok_part at c.variables.ensures in
-    points-memory _ _ _ _ _ _ _ e p q _ c.from_residual-in_err-table.result c.from_residual-in_err-table.ensures.1 power c.if-variables-coordinates.false c.if-variables-others.false
+    points-memory _ _ _ _ _ _ _ e p q _ c.from_residual-in_err-table.result c.from_residual-in_err-table.ensures.1 power c.if-variables-firsts.false c.if-variables-seconds.false
 
 pub returns-in_err-first : goal.returns-in_err-first
 returns-in_err-first c =
     let e = rw c.in_ok-entries.ensures.ok_part at c.count.ensures in
-    let p = rw c.in_ok-coordinates.ensures.ok_part at c.count-2.ensures in
-    let q = rw c.in_ok-others.ensures.ok_part at c.count-3.ensures in
+    let p = rw c.in_ok-firsts.ensures.ok_part at c.count-2.ensures in
+    let q = rw c.in_ok-seconds.ensures.ok_part at c.count-3.ensures in
     let power = rw c.in_ok-variables.ensures.ok_part at c.variables.ensures in
-    points-memory _ _ _ _ _ _ _ e p q _ c.from_residual-in_err-first.result c.from_residual-in_err-first.ensures.1 power c.if-variables-coordinates.false c.if-variables-others.false
+    points-memory _ _ _ _ _ _ _ e p q _ c.from_residual-in_err-first.result c.from_residual-in_err-first.ensures.1 power c.if-variables-firsts.false c.if-variables-seconds.false
 
 pub returns-in_err-second : goal.returns-in_err-second
 returns-in_err-second c =
     let e = rw c.in_ok-entries.ensures.ok_part at c.count.ensures in
-    let p = rw c.in_ok-coordinates.ensures.ok_part at c.count-2.ensures in
-    let q = rw c.in_ok-others.ensures.ok_part at c.count-3.ensures in
+    let p = rw c.in_ok-firsts.ensures.ok_part at c.count-2.ensures in
+    let q = rw c.in_ok-seconds.ensures.ok_part at c.count-3.ensures in
     let power = rw c.in_ok-variables.ensures.ok_part at c.variables.ensures in
-    points-memory _ _ _ _ _ _ _ e p q _ c.from_residual-in_err-second.result c.from_residual-in_err-second.ensures.1 power c.if-variables-coordinates.false c.if-variables-others.false
+    points-memory _ _ _ _ _ _ _ e p q _ c.from_residual-in_err-second.result c.from_residual-in_err-second.ensures.1 power c.if-variables-firsts.false c.if-variables-seconds.false
 
 pub new-requires : goal.new-requires
 new-requires c =
