@@ -7,4 +7,6 @@
 #[cfg(test)]
 mod basis_dots;
 #[cfg(test)]
+mod both_forms;
+#[cfg(test)]
 mod tests;

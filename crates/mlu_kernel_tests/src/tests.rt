@@ -1,6 +1,7 @@
 //! Worked rows, and drawn tables against the plain sums.
 ghost use Rattle.std.specs.Prelude.{◌≡◌, ◌<◌, ◌*◌, IfOk, length};
 
+use crate::both_forms::both_forms_agree;
 use mlu_ext::{ProductAlgebra, QuarticExtension};
 use mlu_kernel::one_row::{lane_sum, row_dot_in_lanes};
 use mlu_kernel::{
@@ -24,6 +25,7 @@ enum Row {
     FourRows,
     NoRow,
     PlainSums,
+    BothForms,
 }
 
 /// Whether the row holds.
@@ -39,6 +41,7 @@ fn holds<F: Field + Sample, EF: ExtensionField<F> + Sample>(
         Row::FourRows => four_rows_added::<F, EF>(alloc),
         Row::NoRow => dot_of_no_row::<F, EF>(alloc),
         Row::PlainSums => kernels_agree::<F, EF>(alloc),
+        Row::BothForms => both_forms_agree::<F, EF>(alloc),
     }
 }
 
@@ -70,6 +73,11 @@ fn over_residues<EF: ExtensionField<BabyBear<4>> + Sample>(
     row: Row,
 ) -> Result<bool, AllocError> {
     holds::<BabyBear<4>, EF>(alloc, row)
+}
+
+/// [`holds`] over products of eight copies, the most that the dot splits by coefficients.
+fn eight_copies(alloc: Global, row: Row) -> Result<bool, AllocError> {
+    over_residues::<ProductAlgebra<BabyBear<4>, 8>>(alloc, row)
 }
 
 /// [`holds`] over products of nine copies.
@@ -111,6 +119,31 @@ fn plain_sums_over_the_quartic(rt: HostRuntime) -> Result<(), Fail> {
     assert!(rt; quartics::<2>(rt.alloc(), Row::PlainSums)?);
     assert!(rt; quartics::<4>(rt.alloc(), Row::PlainSums)?);
     assert!(rt; quartics::<8>(rt.alloc(), Row::PlainSums)?);
+    Ok(())
+}
+
+#[test]
+fn both_forms_over_the_field(rt: HostRuntime) -> Result<(), Fail> {
+    assert!(rt; residues::<1>(rt.alloc(), Row::BothForms)?);
+    assert!(rt; residues::<2>(rt.alloc(), Row::BothForms)?);
+    assert!(rt; residues::<4>(rt.alloc(), Row::BothForms)?);
+    assert!(rt; residues::<8>(rt.alloc(), Row::BothForms)?);
+    Ok(())
+}
+
+#[test]
+fn both_forms_over_the_quartic(rt: HostRuntime) -> Result<(), Fail> {
+    assert!(rt; quartics::<1>(rt.alloc(), Row::BothForms)?);
+    assert!(rt; quartics::<2>(rt.alloc(), Row::BothForms)?);
+    assert!(rt; quartics::<4>(rt.alloc(), Row::BothForms)?);
+    assert!(rt; quartics::<8>(rt.alloc(), Row::BothForms)?);
+    Ok(())
+}
+
+#[test]
+fn both_forms_over_products(rt: HostRuntime) -> Result<(), Fail> {
+    assert!(rt; eight_copies(rt.alloc(), Row::BothForms)?);
+    assert!(rt; nine_copies(rt.alloc(), Row::BothForms)?);
     Ok(())
 }
 
