@@ -14,6 +14,7 @@ use std::test::Fail;
 pub enum Call {
     Below,
     EvalBase,
+    EvalBaseOfTen,
     EvalExt,
     EvalStorage,
     EvalStorageView,
@@ -28,6 +29,7 @@ pub fn made<F: Field, EF: ExtensionField<F>>(
     match call {
         Call::Below => below::<F, EF>(alloc),
         Call::EvalBase => eval_base::<F, EF>(alloc),
+        Call::EvalBaseOfTen => eval_base_of_ten::<F, EF>(alloc),
         Call::EvalExt => eval_ext::<F, EF>(alloc),
         Call::EvalStorage => eval_storage::<F, EF>(alloc),
         Call::EvalStorageView => eval_storage_view::<F, EF>(alloc),
@@ -80,6 +82,13 @@ fn eval_base<F: Field, EF: ExtensionField<F>>(alloc: Global) -> Result<Outcome, 
     let poly = counted::<F>(alloc, 512)?;
     let point = long_point::<EF>(alloc)?;
     Ok(valued(poly.eval_base(alloc, &point), 1022))
+}
+
+/// At ten variables, the threshold of words.
+fn eval_base_of_ten<F: Field, EF: ExtensionField<F>>(alloc: Global) -> Result<Outcome, AllocError> {
+    let poly = counted::<F>(alloc, 1024)?;
+    let point: Point<EF> = Point::new(elements(alloc, &[2; 10])?);
+    Ok(valued(poly.eval_base(alloc, &point), 2046))
 }
 
 fn eval_ext<F: Field, EF: ExtensionField<F>>(alloc: Global) -> Result<Outcome, AllocError> {
@@ -146,6 +155,20 @@ fn copied_storage(rt: HostRuntime) -> Result<(), Fail> {
         "PolyMaybePacked::try_clone",
         AnyCall::Evaluation(Call::CloneStorage),
     )
+}
+
+#[test]
+fn value_of_words(rt: HostRuntime) -> Result<(), Fail> {
+    tried(
+        &rt,
+        "Poly::eval_base of words",
+        AnyCall::Words(Call::EvalBaseOfTen),
+    )
+}
+
+#[test]
+fn words_below_the_threshold(rt: HostRuntime) {
+    assert!(rt; is_served(residues(rt.alloc(), AnyCall::Words(Call::EvalBase))));
 }
 
 #[test]

@@ -1,4 +1,4 @@
-//! All calls, at residues.
+//! All calls, at residues, and evaluations at words too, whose threshold is another.
 ghost use Rattle.std.specs.Prelude.{◌≡◌};
 
 use crate::outcome::{Outcome, is_refused};
@@ -6,7 +6,7 @@ use crate::{
     batches, compressions, evaluations, packings, points, polys, runs, splits, successors,
     sumchecks, unfailing, views,
 };
-use mlu_lanes::BabyBear;
+use mlu_lanes::{BabyBear, WrappingU64};
 use mlu_ring::{ExtensionField, Field, MapFrom, Sample, SelfAlgebra};
 use std::alloc::{AllocError, Global};
 use std::test::Fail;
@@ -27,6 +27,7 @@ pub enum Call {
     Sumcheck,
     ToField,
     Unfailing(unfailing::Call),
+    Words(evaluations::Call),
 }
 
 /// What becomes of the call. Fails where its inputs are refused.
@@ -51,7 +52,13 @@ fn made<F: Field + Sample, EF: ExtensionField<F> + SelfAlgebra, R: ExtensionFiel
         Call::Sumcheck => sumchecks::made::<F, EF>(alloc),
         Call::ToField => splits::converted::<F, EF, R>(alloc),
         Call::Unfailing(call) => unfailing::made::<F, EF>(alloc, call),
+        Call::Words(call) => words(alloc, call),
     }
+}
+
+/// What becomes of an evaluation at words.
+fn words(alloc: Global, call: evaluations::Call) -> Result<Outcome, AllocError> {
+    evaluations::made::<WrappingU64<4>, WrappingU64<4>>(alloc, call)
 }
 
 /// What becomes of the call at residues.
