@@ -1,4 +1,5 @@
-//! The library beside plain Rust, in one run: element operations, then calls on tables and points.
+//! The library beside plain Rust, in one run: element operations, then calls on tables and points, and
+//! sumcheck.
 //!
 //! Rows are interleaved and the least of many rounds counts: trust the ratios, not the times.
 //!
@@ -36,6 +37,18 @@ unsafe extern "C" {
         scalars: *const u32,
         scalars_len: usize,
         variables: usize,
+        rounds: usize,
+    ) -> bool;
+    fn mlu_bench_rounds(
+        out: *mut u32,
+        out_len: usize,
+        entries: *const u32,
+        entries_len: usize,
+        point: *const u32,
+        point_len: usize,
+        challenges: *const u32,
+        challenges_len: usize,
+        call: u32,
         rounds: usize,
     ) -> bool;
 }
@@ -116,13 +129,11 @@ fn is_wanted(name: &str, variables: usize) -> bool {
     std::env::args().skip(1).all(|word| name.contains(&word) || word == variables.to_string())
 }
 
-/// The time of a round, without what comes before the first: that of `2 n` rounds less that of `n`.
-fn row(name: &str, variables: usize, sides: [Repeated; 2]) {
-    if !is_wanted(name, variables) {
-        return;
-    }
+/// The nanoseconds an entry of one call of each side, without what comes before the first: those of `2 n`
+/// calls less those of `n`.
+fn times(variables: usize, sides: &[Repeated]) -> Vec<f64> {
     let rounds = ((1 << 19) >> variables).max(2);
-    let mut least = [[f64::MAX; 2]; 2];
+    let mut least = vec![[f64::MAX; 2]; sides.len()];
     for _ in 0..12 {
         for (side, least) in sides.iter().zip(&mut least) {
             for (least, rounds) in least.iter_mut().zip([rounds, 2 * rounds]) {
@@ -132,9 +143,20 @@ fn row(name: &str, variables: usize, sides: [Repeated; 2]) {
             }
         }
     }
-    assert_eq!(sides[0](3), sides[1](3), "{name}");
-    let [rust, library] = least.map(|[once, twice]| (twice - once) * 1e9 / (rounds << variables) as f64);
+    least.iter().map(|[once, twice]| (twice - once) * 1e9 / (rounds << variables) as f64).collect()
+}
+
+fn print_row(name: &str, variables: usize, rust: f64, library: f64) {
     println!("| {name} | {variables} | {rust:.2} | {library:.2} | {:.2} |", library / rust);
+}
+
+fn row(name: &str, variables: usize, sides: [Repeated; 2]) {
+    if !is_wanted(name, variables) {
+        return;
+    }
+    let times = times(variables, &sides);
+    assert_eq!(sides[0](3), sides[1](3), "{name}");
+    print_row(name, variables, times[0], times[1]);
 }
 
 fn calls(variables: usize) {
@@ -191,6 +213,78 @@ fn batches(variables: usize, points: usize) {
     row(&format!("`eval_eq_batch`, points: {points}"), variables, [rust, Box::new(library)]);
 }
 
+fn sumcheck(variables: usize) {
+    let entries = words(4 << variables, 6);
+    let point = words(4 * variables, 7);
+    let challenges = words(4 * variables, 8);
+    let library = |call: u32| -> Repeated {
+        let (entries, point, challenges) = (&entries, &point, &challenges);
+        Box::new(move |rounds| {
+            let mut out = ZERO;
+            let served = unsafe {
+                mlu_bench_rounds(
+                    out.as_mut_ptr(), out.len(), entries.as_ptr(), entries.len(), point.as_ptr(), point.len(),
+                    challenges.as_ptr(), challenges.len(), call, rounds,
+                )
+            };
+            assert!(served);
+            out
+        })
+    };
+    let (poly, z, challenges) = (extensions(&entries), extensions(&point), extensions(&challenges));
+    let halves = z.split_at(z.len() / 2);
+    let (left, right) = (plain::table(halves.0, ONE), plain::table(halves.1, ONE));
+    let whole = || plain::sumcheck(&poly, &left, &right, &challenges).1.into_iter().fold(ZERO, add);
+    row("sumcheck run", variables, [repeated(whole), library(0)]);
+    let weights = plain::table(&z, ONE);
+    one_round(variables, &poly, &weights, challenges[0], library);
+}
+
+/// A round and its fold beside the fold alone and one pass over both tables, interleaved. The last row is
+/// the first, to the sum of those two, each less its copies.
+fn one_round<'a>(variables: usize, poly: &'a [Ext], weights: &'a [Ext], r: Ext, library: impl Fn(u32) -> Repeated<'a>) {
+    let names = [
+        "sumcheck round and fold, and copies",
+        "sumcheck fold, and copies",
+        "sumcheck copies",
+        "sumcheck one pass",
+    ];
+    if !names.iter().any(|name| is_wanted(name, variables)) {
+        return;
+    }
+    let copies = || black_box([poly.to_vec(), weights.to_vec()]);
+    let folded = |[mut poly, mut weights]: [Vec<Ext>; 2]| {
+        plain::fold(&mut poly, r);
+        plain::fold(&mut weights, r);
+        add(poly[0], weights[0])
+    };
+    let round_and_fold = move || {
+        let tables = copies();
+        let value = plain::value_at(plain::round(&tables[0], &tables[1]), r);
+        add(value, folded(tables))
+    };
+    let copied = move || {
+        let [poly, weights] = copies();
+        add(poly[0], weights[0])
+    };
+    let sides = [
+        repeated(round_and_fold), library(4),
+        repeated(move || folded(copies())), library(3),
+        repeated(copied), library(2),
+        repeated(|| plain::products(poly, weights)), library(1),
+    ];
+    let times = times(variables, &sides);
+    for (i, name) in names.iter().enumerate() {
+        assert_eq!(sides[2 * i](3), sides[2 * i + 1](3), "{name}");
+        print_row(name, variables, times[2 * i], times[2 * i + 1]);
+    }
+    let to_both = |side: usize| {
+        let [both, fold, copies, pass] = [0, 2, 4, 6].map(|i| times[i + side]);
+        (both - copies) / (fold - copies + pass)
+    };
+    println!("| sumcheck round and fold, to fold and one pass | {variables} | {:.2} | {:.2} | |", to_both(0), to_both(1));
+}
+
 fn main() {
     if std::env::args().len() == 1 {
         operations();
@@ -202,5 +296,6 @@ fn main() {
         for points in [1, 4, 16] {
             batches(variables, points);
         }
+        sumcheck(variables);
     }
 }

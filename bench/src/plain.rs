@@ -79,7 +79,7 @@ pub fn table(point: &[Ext], first: Ext) -> Vec<Ext> {
     table
 }
 
-fn fold(table: &mut Vec<Ext>, r: Ext) {
+pub fn fold(table: &mut Vec<Ext>, r: Ext) {
     let half = table.len() / 2;
     let (low, high) = table.split_at_mut(half);
     for (x, y) in low.iter_mut().zip(high) {
@@ -164,4 +164,44 @@ pub fn batch(points: &[Vec<Ext>], scalars: &[Ext]) -> Vec<Ext> {
         }
     }
     out
+}
+
+/// The sum of the products of both tables.
+pub fn products(poly: &[Ext], weights: &[Ext]) -> Ext {
+    poly.iter().zip(weights).fold(ZERO, |sum, (value, weight)| add(sum, mul(*weight, *value)))
+}
+
+/// The coefficients of 1, X and X^2 of that sum with the first variable of both tables at X.
+pub fn round(poly: &[Ext], weights: &[Ext]) -> [Ext; 3] {
+    let (low, high) = poly.split_at(poly.len() / 2);
+    let (low_weights, high_weights) = weights.split_at(weights.len() / 2);
+    let [mut at_zero, mut at_one, mut quadratic] = [ZERO; 3];
+    for ((x, y), (v, w)) in low.iter().zip(high).zip(low_weights.iter().zip(high_weights)) {
+        at_zero = add(at_zero, mul(*v, *x));
+        at_one = add(at_one, mul(*w, *y));
+        quadratic = add(quadratic, mul(sub(*w, *v), sub(*y, *x)));
+    }
+    [at_zero, sub(sub(at_one, at_zero), quadratic), quadratic]
+}
+
+/// The value of a round at `r`.
+pub fn value_at([constant, linear, quadratic]: [Ext; 3], r: Ext) -> Ext {
+    add(constant, mul(r, add(linear, mul(r, quadratic))))
+}
+
+/// The rounds of sumcheck and the claims between them; the weights are those of two halves of a
+/// point.
+pub fn sumcheck(poly: &[Ext], left: &[Ext], right: &[Ext], challenges: &[Ext]) -> (Vec<[Ext; 3]>, Vec<Ext>) {
+    let mut poly = poly.to_vec();
+    let mut weights: Vec<Ext> = left.iter().flat_map(|x| right.iter().map(|y| mul(*x, *y))).collect();
+    let mut rounds = Vec::with_capacity(challenges.len());
+    let mut claims = vec![products(&poly, &weights)];
+    for r in challenges {
+        let round = round(&poly, &weights);
+        fold(&mut poly, *r);
+        fold(&mut weights, *r);
+        rounds.push(round);
+        claims.push(value_at(round, *r));
+    }
+    (rounds, claims)
 }

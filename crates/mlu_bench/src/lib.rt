@@ -1,13 +1,15 @@
 //! Kernels for the benchmark in `bench/`, as C functions over words.
 //!
 //! Each makes elements of the words and repeats one operation on them, place by place, or one call
-//! on tables and points of the extension of degree four. Stands on `multilinear_util`; nothing
-//! stands on it.
+//! on tables and points of the extension of degree four. Stands on `multilinear_util` and
+//! `mlu_sumcheck`; nothing stands on it.
 #![tactic(auto)]
 
 mod calls;
+mod rounds;
 
 use crate::calls::{Case, repeat_batch, repeat_call, repeat_split};
+use crate::rounds::{repeat_rounds, tables_of};
 use mlu_ext::QuarticExtension;
 use mlu_lanes::{BabyBear, Lanes};
 use mlu_ring::place_by_place::{multiply_each, sub_each};
@@ -202,4 +204,29 @@ pub extern "C" fn mlu_bench_batch(
         rounds,
     );
     write(out, answer)
+}
+
+/// Repeats the call of sumcheck with this number, on a table, the weights of a point and challenges.
+/// Gives false where memory is refused or the sizes differ.
+#[unsafe(no_mangle)]
+pub extern "C" fn mlu_bench_rounds(
+    alloc: Global,
+    out: &mut [u32],
+    entries: &[u32],
+    point: &[u32],
+    challenges: &[u32],
+    call: u32,
+    rounds: usize,
+) -> bool {
+    let (Ok(entries), Ok(point), Ok(challenges)) = (
+        extensions(alloc, entries),
+        extensions(alloc, point),
+        extensions(alloc, challenges),
+    ) else {
+        return false;
+    };
+    let Ok(tables) = tables_of::<Element, _>(alloc, entries, point, challenges) else {
+        return false;
+    };
+    write(out, repeat_rounds(alloc, &tables, call, rounds))
 }
