@@ -206,8 +206,8 @@ pub extern "C" fn mlu_bench_batch(
     write(out, answer)
 }
 
-/// Repeats the call of sumcheck with this number, on a table, the weights of a point and challenges.
-/// Gives false where memory is refused or the sizes differ.
+/// Repeats the call of sumcheck with this number, on a table, the weights of a point and
+/// challenges. Gives false where memory is refused or the sizes differ.
 #[unsafe(no_mangle)]
 pub extern "C" fn mlu_bench_rounds(
     alloc: Global,

@@ -1,5 +1,9 @@
 //! Rounds of sumcheck over two tables, repeated, each answered by an element of what they give.
-ghost use Rattle.std.specs.Prelude.{◌≡◌, length};
+//!
+//! No law of rings says that the elements of a round fit the address space: calls that make one
+//! ask it.
+ghost use Rattle.std.specs.Prelude.{◌*◌, ◌<◌, ◌^◌};
+ghost use Rattle.std.specs.Mem.{type_size};
 
 use mlu_ring::{ExtensionField, Field, PrimeCharacteristicRing, SelfAlgebra};
 use mlu_sumcheck::{bind, prove_round, run};
@@ -78,7 +82,9 @@ fn one_round<EF: SelfAlgebra>(
     weights: &Poly<EF>,
     challenge: EF,
     call: u32,
-) -> Result<EF, AllocError> {
+) -> Result<EF, AllocError>
+    requires round_fits { 3 * type_size EF.row < 2 ^ 63 }
+{
     let mut poly = poly.try_clone(alloc)?;
     let mut weights = weights.try_clone(alloc)?;
     if poly.num_evals() != weights.num_evals() || poly.num_evals() < 2 {
@@ -101,7 +107,9 @@ fn answer<F: Field + Drop, EF: ExtensionField<F> + SelfAlgebra + Drop>(
     alloc: Global,
     tables: &Tables<F, EF>,
     call: u32,
-) -> Result<EF, AllocError> {
+) -> Result<EF, AllocError>
+    requires round_fits { 3 * type_size EF.row < 2 ^ 63 }
+{
     if call == 0 {
         return claims(alloc, tables);
     }
@@ -120,7 +128,9 @@ pub fn repeat_rounds<F: Field + Drop, EF: ExtensionField<F> + SelfAlgebra + Drop
     tables: &Tables<F, EF>,
     call: u32,
     rounds: usize,
-) -> Result<EF, AllocError> {
+) -> Result<EF, AllocError>
+    requires round_fits { 3 * type_size EF.row < 2 ^ 63 }
+{
     let mut sum = EF::ZERO;
     for _ in 0..rounds {
         sum = sum + answer(alloc, tables, call)?;
