@@ -1,0 +1,112 @@
+//! The program `mlu_sweep`: every call on polynomials beside its definition, at every shape.
+//!
+//! Its word is the most variables that a polynomial has, 10 where there is none. At each number of
+//! variables up to it, at points of as many coordinates and of fewer, over each ring and lane width,
+//! it draws tables and points, makes the calls, and compares what they give with the plain sums. A
+//! line for each ring and width says that all agree, or the first call that does not.
+//!
+//! Stands on `multilinear_util` and on the crates of test support.
+#![tactic(auto)]
+
+mod batches;
+mod definitions;
+mod draws;
+mod folds;
+mod polys;
+mod report;
+mod rings;
+mod splits;
+mod sweep;
+
+use crate::report::Difference;
+use crate::rings::{nine_copies, no_copies, one_copy, quartics, residues, words};
+use std::alloc::{AllocError, Global};
+use std::env;
+use std::io::{self, Write};
+use std::process::ExitCode;
+
+/// The most variables, where no word says another number.
+const MOST: usize = 10;
+
+/// Why the program stops early.
+enum Stop {
+    /// An answer differs.
+    Difference,
+    /// Memory was refused, the word is no number, or a write failed.
+    Other,
+}
+
+impl From<AllocError> for Stop {
+    fn from(_: AllocError) -> Stop {
+        Stop::Other
+    }
+}
+
+impl From<io::Error> for Stop {
+    fn from(_: io::Error) -> Stop {
+        Stop::Other
+    }
+}
+
+/// The number that the first word says.
+fn most(rt: &HostRuntime) -> Result<usize, Stop> {
+    match env::args(rt)?.nth(1) {
+        None => Ok(MOST),
+        Some(word) => word.parse().map_err(|_| Stop::Other),
+    }
+}
+
+/// Writes the line of a ring at a lane width.
+fn tell<W: Write>(
+    out: &mut W,
+    ring: &str,
+    width: usize,
+    difference: Option<Difference>,
+) -> Result<(), Stop> {
+    match difference {
+        None => {
+            writeln!(out, "{ring}, {width} lanes: all agree")?;
+            Ok(())
+        }
+        Some(difference) => {
+            writeln!(out, "{ring}, {width} lanes: {difference}")?;
+            Err(Stop::Difference)
+        }
+    }
+}
+
+/// Sweeps the rings at a lane width, a line each.
+macro_rules! sweep_rings {
+    ($width:literal, $alloc:ident, $most:ident, $out:ident) => {
+        tell($out, "residues", $width, residues::<$width>($alloc, $most)?)?;
+        tell($out, "words", $width, words::<$width>($alloc, $most)?)?;
+        tell($out, "quartics", $width, quartics::<$width>($alloc, $most)?)?;
+        tell($out, "no copies", $width, no_copies::<$width>($alloc, $most)?)?;
+        tell($out, "one copy", $width, one_copy::<$width>($alloc, $most)?)?;
+        tell($out, "nine copies", $width, nine_copies::<$width>($alloc, $most)?)?;
+    };
+}
+
+/// Sweeps all rings at all lane widths.
+fn sweep_widths<W: Write>(alloc: Global, most: usize, out: &mut W) -> Result<(), Stop> {
+    sweep_rings!(1, alloc, most, out);
+    sweep_rings!(2, alloc, most, out);
+    sweep_rings!(4, alloc, most, out);
+    sweep_rings!(8, alloc, most, out);
+    sweep_rings!(16, alloc, most, out);
+    Ok(())
+}
+
+/// Sweeps up to the number of variables that the words say.
+fn run(rt: &HostRuntime) -> Result<(), Stop> {
+    let most = most(rt)?;
+    sweep_widths(rt.alloc(), most, &mut rt.stdout())
+}
+
+fn main(rt: HostRuntime) -> ExitCode {
+    ExitCode::from(match run(&rt) {
+        Ok(()) => 0,
+        Err(Stop::Difference) => 1,
+        Err(Stop::Other) => 2,
+    })
+}

@@ -1,0 +1,77 @@
+//! The rings that are swept. Each function here names one field and one extension of it.
+ghost use Rattle.std.specs.Prelude.{◌<◌};
+
+use crate::report::Difference;
+use crate::sweep::sweep;
+use mlu_ext::{ProductAlgebra, QuarticExtension};
+use mlu_lanes::{BabyBear, LaneWidth, Lanes, WrappingU64};
+use std::alloc::{AllocError, Global};
+
+/// The integers modulo 2013265921.
+pub fn residues<const W: usize>(
+    alloc: Global,
+    most: usize,
+) -> Result<Option<Difference>, AllocError>
+where
+    Lanes<BabyBear<W>, W>: LaneWidth<W>,
+    requires { W < 32 }
+{
+    sweep::<BabyBear<W>, BabyBear<W>>(alloc, most)
+}
+
+/// The integers modulo 2^64.
+pub fn words<const W: usize>(alloc: Global, most: usize) -> Result<Option<Difference>, AllocError>
+where
+    Lanes<WrappingU64<W>, W>: LaneWidth<W>,
+    requires { W < 32 }
+{
+    sweep::<WrappingU64<W>, WrappingU64<W>>(alloc, most)
+}
+
+/// The extension of degree four.
+pub fn quartics<const W: usize>(
+    alloc: Global,
+    most: usize,
+) -> Result<Option<Difference>, AllocError>
+where
+    Lanes<BabyBear<W>, W>: LaneWidth<W>,
+    requires { W < 32 }
+{
+    sweep::<BabyBear<W>, QuarticExtension<BabyBear<W>>>(alloc, most)
+}
+
+/// No copies of the integers modulo 2013265921, side by side.
+pub fn no_copies<const W: usize>(
+    alloc: Global,
+    most: usize,
+) -> Result<Option<Difference>, AllocError>
+where
+    Lanes<BabyBear<W>, W>: LaneWidth<W>,
+    requires { W < 32 }
+{
+    sweep::<BabyBear<W>, ProductAlgebra<BabyBear<W>, 0>>(alloc, most)
+}
+
+/// One copy of the integers modulo 2013265921, side by side.
+pub fn one_copy<const W: usize>(
+    alloc: Global,
+    most: usize,
+) -> Result<Option<Difference>, AllocError>
+where
+    Lanes<BabyBear<W>, W>: LaneWidth<W>,
+    requires { W < 32 }
+{
+    sweep::<BabyBear<W>, ProductAlgebra<BabyBear<W>, 1>>(alloc, most)
+}
+
+/// Nine copies of the integers modulo 2013265921, side by side.
+pub fn nine_copies<const W: usize>(
+    alloc: Global,
+    most: usize,
+) -> Result<Option<Difference>, AllocError>
+where
+    Lanes<BabyBear<W>, W>: LaneWidth<W>,
+    requires { W < 32 }
+{
+    sweep::<BabyBear<W>, ProductAlgebra<BabyBear<W>, 9>>(alloc, most)
+}

@@ -1,0 +1,90 @@
+//! Every shape up to a number of variables, over any field and extension of it.
+
+use crate::draws::{element, elements, polynomial};
+use crate::report::{Difference, Report};
+use crate::{batches, folds, polys, splits};
+use mlu_ring::{ExtensionField, Field, Sample};
+use multilinear_util::point::Point;
+use multilinear_util::poly::Poly;
+use rand_core::SeedableRng;
+use rand_pcg::Pcg32;
+use std::alloc::{AllocError, Global};
+
+/// Batches have one point, and a few.
+const POINTS: [usize; 2] = [1, 3];
+
+/// Compares each call on polynomials of each number of variables up to `most`, at points of as many
+/// coordinates and of fewer, and gives the first difference.
+///
+/// # Errors
+/// Where memory is refused, and at 32 variables and more.
+pub fn sweep<F: Field + Sample, EF: ExtensionField<F> + Sample>(
+    alloc: Global,
+    most: usize,
+) -> Result<Option<Difference>, AllocError> {
+    let mut report = Report::new();
+    let mut rng = Pcg32::seed_from_u64(1);
+    for variables in 0..=most {
+        report.shape.variables = variables;
+        polynomials::<F, EF>(alloc, &mut report, &mut rng, variables)?;
+        tables::<F, EF>(alloc, &mut report, &mut rng, variables)?;
+    }
+    Ok(report.difference)
+}
+
+/// Compares the calls on drawn polynomials of so many variables.
+fn polynomials<F: Field + Sample, EF: ExtensionField<F> + Sample>(
+    alloc: Global,
+    report: &mut Report,
+    rng: &mut Pcg32,
+    variables: usize,
+) -> Result<(), AllocError> {
+    let base: Poly<F> = polynomial(alloc, rng, variables)?;
+    let ext: Poly<EF> = polynomial(alloc, rng, variables)?;
+    folds::into_the_extension(alloc, report, &base, element::<EF>(rng))?;
+    folds::in_place(alloc, report, &ext, element::<F>(rng))?;
+    folds::of_coefficients(alloc, report, &ext, element::<F>(rng))?;
+    for coordinates in 0..=variables {
+        report.shape.coordinates = coordinates;
+        at_a_point(alloc, report, rng, coordinates, (&base, &ext))?;
+    }
+    Ok(())
+}
+
+/// Compares the calls on polynomials at a drawn point of so many coordinates, with a drawn scale.
+fn at_a_point<F: Field, EF: ExtensionField<F> + Sample>(
+    alloc: Global,
+    report: &mut Report,
+    rng: &mut Pcg32,
+    coordinates: usize,
+    (base, ext): (&Poly<F>, &Poly<EF>),
+) -> Result<(), AllocError> {
+    let point = Point::new(elements(alloc, rng, coordinates)?);
+    let scale = element(rng);
+    splits::compare(alloc, report, (&point, scale), (base, ext))?;
+    polys::compress(alloc, report, (&point, scale), base)?;
+    if base.num_variables() == coordinates {
+        polys::evaluate(alloc, report, &point, (base, ext))?;
+        polys::evaluate_lanes::<F, EF>(alloc, report, &point, ext)?;
+    }
+    Ok(())
+}
+
+/// Compares the tables of a drawn point of so many coordinates, and batches of tables.
+fn tables<F: Field + Sample, EF: ExtensionField<F> + Sample>(
+    alloc: Global,
+    report: &mut Report,
+    rng: &mut Pcg32,
+    variables: usize,
+) -> Result<(), AllocError> {
+    let point = Point::new(elements::<EF>(alloc, rng, variables)?);
+    let scale = element(rng);
+    polys::tabulate::<F, EF>(alloc, report, &point, scale)?;
+    polys::tabulate_lanes::<F, EF>(alloc, report, &point, scale)?;
+    for points in POINTS {
+        for log_chunks in [0, variables / 2, variables] {
+            batches::sum_tables::<F, EF>(alloc, report, rng, points, (variables, log_chunks))?;
+        }
+    }
+    Ok(())
+}
