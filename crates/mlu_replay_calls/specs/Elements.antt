@@ -1,37 +1,12 @@
 -- The words that stand for elements, and for lists of them.
-use Rattle.std.specs.Prelude.{◌≡◌, ℕ, ◌<◌, Bool, List, [], ◌∷◌, length, ◌==◌, codes, decimal, ⊤, MatchOption, MatchResult}
-use Rattle.std.specs.List.{join_with_byte}
+use Rattle.std.specs.Prelude.{◌≡◌, ℕ, List, [], ◌∷◌, ◌++◌, ◌==◌, codes, decimal, ⊤, MatchOption, MatchResult}
+use Rattle.std.specs.List.{join_with_byte, slice_split}
 use Rattle.std.specs.declared.option.Option.{Option}
 use Rattle.std.specs.declared.result.Result.{Result}
 use Rattle.mlu_replay_calls.specs.declared.fault.Reason.{Reason}
 use Rattle.mlu_replay_calls.specs.declared.fault.Reason.TheVariants.{Element}
-use Rattle.std.specs.List.{before_first, after_first, position_or_len}
 use Rattle.mlu_lanes.specs.BabyBear.{canonical}
 use Rattle.mlu_lanes.specs.declared.baby_bear.BabyBear.{BabyBear}
-use Rattle.mlu_ext.specs.declared.quartic.QuarticExtension.{QuarticExtension}
-
-abbrev pub is_colon : ℕ → Bool
-is_colon byte = byte == 58
-
--- the parts before the first colon and after it
-abbrev pub IsSplit : List ℕ → List ℕ → List ℕ → Type 0
-IsSplit word front back = (position_or_len is_colon word < length word) × (front ≡ before_first is_colon word) × (back ≡ after_first is_colon word)
-
-module _ {W : ℕ} where
-  -- the decimal of the least residue
-  abbrev pub residue_word : BabyBear W → List ℕ
-  residue_word x = decimal (canonical x)
-
-  -- four coefficients, with colons between
-  abbrev pub IsFour : List ℕ → QuarticExtension (BabyBear W) → Type 0
-  IsFour word x = (last three : List ℕ)
-      × IsSplit word (residue_word x.c0) three × IsSplit three (residue_word x.c1) last
-      × IsSplit last (residue_word x.c2) (residue_word x.c3)
-
-  -- a constant
-  abbrev pub IsLone : List ℕ → QuarticExtension (BabyBear W) → Type 0
-  IsLone word x = (position_or_len is_colon word ≡ length word) × (residue_word x.c0 ≡ word)
-      × (canonical x.c1 ≡ 0) × (canonical x.c2 ≡ 0) × (canonical x.c3 ≡ 0)
 
 -- words that stand for elements of some ring
 module _ {T : Type 0} (Stands : List ℕ → T → Type 0) where
@@ -55,3 +30,21 @@ module _ {T : Type 0} (Stands : List ℕ → T → Type 0) where
   abbrev pub IsListWord : List ℕ → List T → Type 0
   IsListWord word [] = word ≡ codes "-"
   IsListWord word (x ∷ xs) = (words : List (List ℕ)) × EachStands words (x ∷ xs) × (word ≡ join_with_byte 44 words)
+
+  -- words of the elements were appended, with a separator between
+  abbrev pub IsWrittenBetween : ℕ → List ℕ → List ℕ → List T → Type 0
+  IsWrittenBetween separator old new xs = (words : List (List ℕ)) × EachStands words xs × (new ≡ old ++ join_with_byte separator words)
+
+-- residues and what is made of them
+module _ {W : ℕ} where
+  -- the decimal of the least residue
+  abbrev pub IsResidue : List ℕ → BabyBear W → Type 0
+  IsResidue word x = decimal (canonical x) ≡ word
+
+  -- the residues, with colons between
+  abbrev pub AreCoefficients : List ℕ → List (BabyBear W) → Type 0
+  AreCoefficients word xs = EachStands IsResidue (slice_split (λ byte. byte == 58) word) xs
+
+  -- the image of a residue
+  abbrev pub IsImage : {E : Type 0} → (BabyBear W → E) → List ℕ → E → Type 0
+  IsImage image word x = (c : BabyBear W) × IsResidue word c × (x ≡ image c)

@@ -1,11 +1,14 @@
 //! Elements as words: read from them, and written as them.
-ghost use Rattle.std.specs.Prelude.{◌≡◌, ◌⊎◌, ◌++◌, ℕ, List, decimal, string_bytes, IfOk, MatchOption};
+ghost use Rattle.std.specs.Prelude.{◌≡◌, ◌⊎◌, ◌++◌, ◌<◌, ℕ, List, length, decimal, string_bytes, IfOk, MatchOption};
 ghost use Rattle.mlu_lanes.specs.BabyBear.{canonical};
 ghost use Rattle.mlu_lanes.specs.WrappingU64.{number};
-ghost use Rattle.mlu_replay_calls.specs.Elements.{IsFour, IsLone};
+ghost use Rattle.mlu_lanes.specs.BabyBear.{baby_bear_ring};
+ghost use Rattle.mlu_ext.specs.Product.{diagonal, entries_of};
+ghost use Rattle.mlu_ext.specs.Quartic.{constant, quartic_coefficients};
+ghost use Rattle.mlu_replay_calls.specs.Elements.{AreCoefficients, IsImage, IsWrittenBetween};
 
 use crate::decimals::decimal;
-use mlu_ext::QuarticExtension;
+use mlu_ext::{ProductAlgebra, QuarticExtension};
 use mlu_lanes::{BabyBear, MODULUS, WrappingU64};
 use mlu_ring::{Additive, Algebra};
 use std::alloc::AllocError;
@@ -61,30 +64,76 @@ impl<const W: usize> Element for WrappingU64<W> {
 
 /// Four coefficients between colons; a lone one stands for the constant.
 impl<const W: usize> Element for QuarticExtension<BabyBear<W>> {
-    ghost stands = { λ word x. IsFour word x ⊎ IsLone word x };
+    ghost stands = { λ word x. AreCoefficients word (quartic_coefficients x) ⊎ IsImage (constant (baby_bear_ring W).zero) word x };
 
     fn read(word: &str) -> Option<Self> {
-        let Some((c0, rest)) = word.split_once(':') else {
-            let constant: BabyBear<W> = BabyBear::read(word)?;
+        if let Some(constant) = BabyBear::<W>::read(word) {
             return Some(QuarticExtension::from_base(constant));
-        };
-        let (c1, rest) = rest.split_once(':')?;
-        let (c2, c3) = rest.split_once(':')?;
-        Some(QuarticExtension::new(
-            BabyBear::read(c0)?,
-            BabyBear::read(c1)?,
-            BabyBear::read(c2)?,
-            BabyBear::read(c3)?,
-        ))
+        }
+        let [c0, c1, c2, c3] = read_coefficients::<W, 4>(word)?;
+        Some(QuarticExtension::new(c0, c1, c2, c3))
     }
 
     fn write(self, text: &mut String) -> Result<(), AllocError> {
-        self.c0.write(text)?;
-        text.push(':')?;
-        self.c1.write(text)?;
-        text.push(':')?;
-        self.c2.write(text)?;
-        text.push(':')?;
-        self.c3.write(text)
+        write_between(&[self.c0, self.c1, self.c2, self.c3], ':', text)
     }
+}
+
+/// `D` entries between colons; a lone one stands for its copies, so each does where `D` is zero.
+impl<const W: usize, const D: usize> Element for ProductAlgebra<BabyBear<W>, D> {
+    ghost stands = { λ word x. AreCoefficients word (entries_of x) ⊎ IsImage (diagonal D) word x };
+
+    fn read(word: &str) -> Option<Self> {
+        if let Some(copied) = BabyBear::<W>::read(word) {
+            return Some(ProductAlgebra::from_base(copied));
+        }
+        let entries = read_coefficients::<W, D>(word)?;
+        Some(ProductAlgebra::from_array(entries))
+    }
+
+    fn write(self, text: &mut String) -> Result<(), AllocError> {
+        if D == 0 {
+            return BabyBear::<W>::ZERO.write(text);
+        }
+        write_between(&self.to_array(), ':', text)
+    }
+}
+
+/// The residues between colons, and `None` exactly where they are not so many or one is none.
+fn read_coefficients<const W: usize, const D: usize>(word: &str) -> Option<[BabyBear<W>; D]>
+    ensures { MatchOption result ((xs : List (BabyBear W)) → length xs ≡ D → AreCoefficients word.now xs → ⊥) (λ xs. AreCoefficients word.now xs) }
+{
+    let mut coefficients = [BabyBear::ZERO; D];
+    let mut count = 0;
+    for piece in word.split(':') {
+        if count == D {
+            return None;
+        }
+        coefficients[count] = BabyBear::read(piece)?;
+        count += 1;
+    }
+    if count == D { Some(coefficients) } else { None }
+}
+
+/// Appends the words of the elements, with a separator between, which is ASCII.
+///
+/// # Errors
+/// Where memory is refused.
+pub fn write_between<T: Element>(
+    list: &[T],
+    separator: char,
+    text: &mut String,
+) -> Result<(), AllocError>
+    requires { separator < 128 }
+    ensures { IfOk result (λ _. IsWrittenBetween T.stands separator (string_bytes text.old) (string_bytes text.new) list.now) }
+{
+    let Some((first, rest)) = list.split_first() else {
+        return Ok(());
+    };
+    first.write(text)?;
+    for x in rest {
+        text.push(separator)?;
+        x.write(text)?;
+    }
+    Ok(())
 }

@@ -3,7 +3,7 @@
 ghost use Rattle.std.specs.Prelude.{string_bytes, IfOk};
 ghost use Rattle.mlu_replay_calls.specs.Elements.{IsListWord};
 
-use crate::element::Element;
+use crate::element::{Element, write_between};
 use std::alloc::{AllocError, Global};
 
 /// The word of the empty list.
@@ -17,14 +17,10 @@ pub fn list_word<T: Element>(alloc: Global, list: &[T]) -> Result<String, AllocE
     ensures { IfOk result (λ text. IsListWord T.stands (string_bytes text) list.now) }
 {
     let mut text = String::new(alloc);
-    let Some((first, rest)) = list.split_first() else {
+    if list.is_empty() {
         text.push_str(NONE)?;
-        return Ok(text);
-    };
-    first.write(&mut text)?;
-    for x in rest {
-        text.push(',')?;
-        x.write(&mut text)?;
+    } else {
+        write_between(list, ',', &mut text)?;
     }
     Ok(text)
 }
