@@ -5,8 +5,10 @@
 //! them.
 #![tactic(auto)]
 
-use mlu_ext::QuarticExtension;
-use mlu_lanes::{BabyBear, WrappingU64};
+ghost use Rattle.std.specs.Prelude.{◌<◌};
+
+use mlu_ext::{ProductAlgebra, QuarticExtension};
+use mlu_lanes::{BabyBear, LaneWidth, Lanes, WrappingU64};
 use mlu_replay_calls::fault::{Fault, Reason};
 use mlu_replay_calls::ops::{mixed, over_base, over_itself};
 use mlu_replay_calls::words::Words;
@@ -16,10 +18,13 @@ use std::alloc::Global;
 macro_rules! over_rings {
     ($width:literal, $op:ident, $words:ident) => {
         match $words.word()? {
-            "b" => over_itself::<BabyBear<$width>>($op, $words),
-            "m" => mixed::<BabyBear<$width>, QuarticExtension<BabyBear<$width>>>($op, $words),
+            "b" => residues::<$width>($op, $words),
+            "m" => quartics_over_residues::<$width>($op, $words),
             "e" => over_base::<BabyBear<$width>, QuarticExtension<BabyBear<$width>>>($op, $words),
-            "u" => over_itself::<WrappingU64<$width>>($op, $words),
+            "p0" => no_copies::<$width>($op, $words),
+            "p1" => one_copy::<$width>($op, $words),
+            "p9" => nine_copies::<$width>($op, $words),
+            "u" => residues_of_words::<$width>($op, $words),
             _ => Err(Fault::Unknown(Reason::Tag)),
         }
     };
@@ -59,4 +64,55 @@ fn eight_lanes(op: &str, words: &mut Words<'_>) -> Result<String, Fault> {
 
 fn sixteen_lanes(op: &str, words: &mut Words<'_>) -> Result<String, Fault> {
     over_rings!(16, op, words)
+}
+
+// A function that names rings costs the check half a minute, whatever it does. Those below do so once
+// for all widths; for quartics over themselves the check would stop at its step limit.
+
+fn residues<const W: usize>(op: &str, words: &mut Words<'_>) -> Result<String, Fault>
+where
+    Lanes<BabyBear<W>, W>: LaneWidth<W>,
+    requires { W < 32 }
+{
+    over_itself::<BabyBear<W>>(op, words)
+}
+
+fn residues_of_words<const W: usize>(op: &str, words: &mut Words<'_>) -> Result<String, Fault>
+where
+    Lanes<WrappingU64<W>, W>: LaneWidth<W>,
+    requires { W < 32 }
+{
+    over_itself::<WrappingU64<W>>(op, words)
+}
+
+fn quartics_over_residues<const W: usize>(op: &str, words: &mut Words<'_>) -> Result<String, Fault>
+where
+    Lanes<BabyBear<W>, W>: LaneWidth<W>,
+    requires { W < 32 }
+{
+    mixed::<BabyBear<W>, QuarticExtension<BabyBear<W>>>(op, words)
+}
+
+fn no_copies<const W: usize>(op: &str, words: &mut Words<'_>) -> Result<String, Fault>
+where
+    Lanes<BabyBear<W>, W>: LaneWidth<W>,
+    requires { W < 32 }
+{
+    mixed::<BabyBear<W>, ProductAlgebra<BabyBear<W>, 0>>(op, words)
+}
+
+fn one_copy<const W: usize>(op: &str, words: &mut Words<'_>) -> Result<String, Fault>
+where
+    Lanes<BabyBear<W>, W>: LaneWidth<W>,
+    requires { W < 32 }
+{
+    mixed::<BabyBear<W>, ProductAlgebra<BabyBear<W>, 1>>(op, words)
+}
+
+fn nine_copies<const W: usize>(op: &str, words: &mut Words<'_>) -> Result<String, Fault>
+where
+    Lanes<BabyBear<W>, W>: LaneWidth<W>,
+    requires { W < 32 }
+{
+    mixed::<BabyBear<W>, ProductAlgebra<BabyBear<W>, 9>>(op, words)
 }
