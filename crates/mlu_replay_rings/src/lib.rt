@@ -69,6 +69,7 @@ fn sixteen_lanes(op: &str, words: &mut Words<'_>) -> Result<String, Fault> {
 // A function that names rings costs the check half a minute, whatever it does. Those below do so once
 // for all widths; for quartics over themselves the check would stop at its step limit.
 
+/// Over the residues modulo a prime.
 fn residues<const W: usize>(op: &str, words: &mut Words<'_>) -> Result<String, Fault>
 where
     Lanes<BabyBear<W>, W>: LaneWidth<W>,
@@ -77,6 +78,7 @@ where
     over_itself::<BabyBear<W>>(op, words)
 }
 
+/// Over the residues modulo 2^64.
 fn residues_of_words<const W: usize>(op: &str, words: &mut Words<'_>) -> Result<String, Fault>
 where
     Lanes<WrappingU64<W>, W>: LaneWidth<W>,
@@ -85,6 +87,7 @@ where
     over_itself::<WrappingU64<W>>(op, words)
 }
 
+/// Over the residues modulo a prime, with quartics over them.
 fn quartics_over_residues<const W: usize>(op: &str, words: &mut Words<'_>) -> Result<String, Fault>
 where
     Lanes<BabyBear<W>, W>: LaneWidth<W>,
@@ -93,6 +96,7 @@ where
     mixed::<BabyBear<W>, QuarticExtension<BabyBear<W>>>(op, words)
 }
 
+/// Over the residues modulo a prime, with products of no copies: the ring of one element.
 fn no_copies<const W: usize>(op: &str, words: &mut Words<'_>) -> Result<String, Fault>
 where
     Lanes<BabyBear<W>, W>: LaneWidth<W>,
@@ -101,6 +105,7 @@ where
     mixed::<BabyBear<W>, ProductAlgebra<BabyBear<W>, 0>>(op, words)
 }
 
+/// Over the residues modulo a prime, with products of one copy.
 fn one_copy<const W: usize>(op: &str, words: &mut Words<'_>) -> Result<String, Fault>
 where
     Lanes<BabyBear<W>, W>: LaneWidth<W>,
@@ -109,6 +114,7 @@ where
     mixed::<BabyBear<W>, ProductAlgebra<BabyBear<W>, 1>>(op, words)
 }
 
+/// Over the residues modulo a prime, with products of nine copies.
 fn nine_copies<const W: usize>(op: &str, words: &mut Words<'_>) -> Result<String, Fault>
 where
     Lanes<BabyBear<W>, W>: LaneWidth<W>,
