@@ -7,12 +7,15 @@ ghost use Rattle.mlu_kernel.specs.Kernels.{double_sum};
 ghost use Rattle.mlu_eq.specs.Split.{contents};
 
 use crate::half::{EqMaybePacked, Weights};
-use mlu_kernel::compress_hi_dot_packed;
 use mlu_kernel::one_row::lane_sum;
+use mlu_kernel::{compress_hi_dot_packed, compress_hi_dot_packed_eager};
 use mlu_ring::{
     Additive, Algebra, ExtensionField, Field, Lanewise, PackedFieldExtension, PackedValue,
     PrimeCharacteristicRing, row_of,
 };
+
+/// With fewer entries than these it does not pay to split the packed weights into columns.
+const FEW_ENTRIES: usize = 1024;
 
 /// The sum of the base entries, each times its weight. Asks for as many entries as the split
 /// table has.
@@ -26,7 +29,7 @@ pub fn dot_base<F: Field, EF: ExtensionField<F>>(
 {
     match eq1.weights() {
         Weights::Scalar(weights) => dot_of_rows(eq0, weights, entries),
-        Weights::Packed(weights) => { compress_hi_dot_packed::<F, EF>(weights, entries, eq0) }
+        Weights::Packed(weights) => packed_dot(eq0, weights, entries),
     }
 }
 
@@ -72,6 +75,24 @@ fn row_dot<F: Field, EF: ExtensionField<F>>(eq1: &EqMaybePacked<F, EF>, row: &[E
     match eq1.weights() {
         Weights::Scalar(weights) => dot(weights, row),
         Weights::Packed(weights) => lane_sum::<F, EF>(group_dot::<F, EF>(weights, row)),
+    }
+}
+
+/// The sum of the base entries, each times its packed weight, by the kernel that is faster.
+#[inline]
+fn packed_dot<F: Field, EF: ExtensionField<F>>(
+    eq0: &[EF],
+    weights: &[EF::ExtensionPacking],
+    entries: &[F],
+) -> EF
+    requires { length entries.now ≡ length eq0.now * (length weights.now * F.Packing.WIDTH) }
+    ensures { result ≡ double_sum EF.ring eq0.now
+        (logical EF.ExtensionPacking.ext_lanes weights.now) (map EF.embed entries.now) }
+{
+    if entries.len() < FEW_ENTRIES {
+        compress_hi_dot_packed_eager(weights, entries, eq0)
+    } else {
+        compress_hi_dot_packed(weights, entries, eq0)
     }
 }
 

@@ -15,6 +15,6 @@ pub returns-in-Packed : goal.returns-in-Packed
 returns-in-Packed g c =
     let ring = g.EF.Additive.ring in
     let e = map g.EF.Algebra.embed c.args.entries.now in
-    c.compress_hi_dot_packed.ensures
+    c.packed_dot.ensures
     ∙ ap (λ half. double_sum ring c.args.eq0.now half.weights e) (sym c.in-Packed.ensures.0)
     ∙ sym (pair-contents ring g.met.EF.Additive.laws c.args.eq0.now c.args.eq1.now.weights e)
