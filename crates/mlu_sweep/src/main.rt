@@ -5,21 +5,13 @@
 //! it draws tables and points, makes the calls, and compares what they give with the plain sums. A
 //! line for each ring and width says that all agree, or the first call that does not.
 //!
-//! Stands on `multilinear_util` and on the crates of test support.
+//! [`mlu_sweep_calls::sweep`] is all of it over one ring.
 #![tactic(auto)]
 
-mod batches;
-mod definitions;
-mod draws;
-mod folds;
-mod polys;
-mod report;
 mod rings;
-mod splits;
-mod sweep;
 
-use crate::report::Difference;
 use crate::rings::{nine_copies, no_copies, one_copy, quartics, residues, words};
+use mlu_sweep_calls::Difference;
 use std::alloc::{AllocError, Global};
 use std::env;
 use std::io::{self, Write};

@@ -1,10 +1,9 @@
 //! The rings that are swept. Each function here names one field and one extension of it.
 ghost use Rattle.std.specs.Prelude.{◌<◌};
 
-use crate::report::Difference;
-use crate::sweep::sweep;
 use mlu_ext::{ProductAlgebra, QuarticExtension};
 use mlu_lanes::{BabyBear, LaneWidth, Lanes, WrappingU64};
+use mlu_sweep_calls::{Difference, sweep};
 use std::alloc::{AllocError, Global};
 
 /// The integers modulo 2013265921.

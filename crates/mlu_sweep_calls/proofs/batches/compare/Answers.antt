@@ -2,7 +2,7 @@ use Rattle.std.proofs.Common.{◌≡◌, ◌*◌, ◌/◌, ◌<◌, ◌≤◌, �
 use Rattle.std.proofs.Math.Nat.{mul-div_cancel}
 use Rattle.mlu_ring.proofs.Rows.{rows_of-multiple}
 use Rattle.mlu_point.proofs.Sizes.{places-of_rows}
-use Rattle.mlu_sweep.proofs.batches.compare.Goals as goal
+use Rattle.mlu_sweep_calls.proofs.batches.compare.Goals as goal
 
 pub new-evals-requires : goal.new-evals-requires
 new-evals-requires g c = rows_of-multiple _ c.args.batch.variables (length c.args.scalars.now) c.requires.rows

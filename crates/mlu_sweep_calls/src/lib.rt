@@ -1,0 +1,18 @@
+//! The calls on polynomials beside their definitions, at every shape, over any rings.
+//!
+//! [`sweep`] draws tables and points of each size, makes the calls, and compares what they give with the
+//! plain sums. Stands on `multilinear_util` and on the crates of test support; the program `mlu_sweep`
+//! stands on it. It is a crate of its own since it names no ring.
+#![tactic(auto)]
+
+mod batches;
+mod definitions;
+mod draws;
+mod folds;
+mod polys;
+mod report;
+mod splits;
+mod sweep;
+
+pub use report::Difference;
+pub use sweep::sweep;
