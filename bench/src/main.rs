@@ -3,55 +3,18 @@
 //!
 //! Rows are interleaved and the least of many rounds counts: trust the ratios, not the times.
 //!
-//! With words, only the calls whose name has each word, or whose number of variables it is:
+//! With `--n`, `--only` or `--time`, the library alone, in rows as the benchmark of the Rust crate prints
+//! them ([`rows`]). With other words, only the calls whose name has each word, or whose number of variables it is:
 //! `cargo run --release -- eval_base 16`.
 
+mod library;
 mod plain;
+mod rows;
 
+use library::{Repeated, mlu_bench_lanes, mlu_bench_scalar};
 use plain::{Ext, ONE, P, ZERO, add, reduce_once, reduce_product};
 use std::hint::black_box;
 use std::time::Instant;
-
-#[link(name = "mlu_bench", kind = "static")]
-#[link(name = "libc_c", kind = "static")]
-unsafe extern "C" {
-    fn mlu_bench_scalar(out: *mut u32, out_len: usize, b: *const u32, b_len: usize, operation: u32, rounds: usize) -> bool;
-    fn mlu_bench_lanes(out: *mut u32, out_len: usize, b: *const u32, b_len: usize, operation: u32, rounds: usize) -> bool;
-    fn mlu_bench_call(
-        out: *mut u32,
-        out_len: usize,
-        entries: *const u32,
-        entries_len: usize,
-        point: *const u32,
-        point_len: usize,
-        part: *const u32,
-        part_len: usize,
-        call: u32,
-        rounds: usize,
-    ) -> bool;
-    fn mlu_bench_batch(
-        out: *mut u32,
-        out_len: usize,
-        rows: *const u32,
-        rows_len: usize,
-        scalars: *const u32,
-        scalars_len: usize,
-        variables: usize,
-        rounds: usize,
-    ) -> bool;
-    fn mlu_bench_rounds(
-        out: *mut u32,
-        out_len: usize,
-        entries: *const u32,
-        entries_len: usize,
-        point: *const u32,
-        point_len: usize,
-        challenges: *const u32,
-        challenges_len: usize,
-        call: u32,
-        rounds: usize,
-    ) -> bool;
-}
 
 /// The same operations as a Rust program would write them, over words.
 #[inline(never)]
@@ -116,9 +79,6 @@ fn extensions(words: &[u32]) -> Vec<Ext> {
     words.chunks_exact(4).map(|c| [c[0], c[1], c[2], c[3]]).collect()
 }
 
-/// The answer of `rounds` calls.
-type Repeated<'a> = Box<dyn Fn(usize) -> Ext + 'a>;
-
 /// Sums what a call answers, as the library's side does.
 fn repeated<'a>(call: impl Fn() -> Ext + 'a) -> Repeated<'a> {
     Box::new(move |rounds| (0..rounds).fold(ZERO, |sum, _| add(sum, black_box(call()))))
@@ -163,20 +123,7 @@ fn calls(variables: usize) {
     let entries = words(4 << variables, 1);
     let point = words(4 * variables, 2);
     let part = words(4 * (variables / 2), 3);
-    let library = |call: u32| -> Repeated {
-        let (entries, point, part) = (&entries, &point, &part);
-        Box::new(move |rounds| {
-            let mut out = ZERO;
-            let served = unsafe {
-                mlu_bench_call(
-                    out.as_mut_ptr(), out.len(), entries.as_ptr(), entries.len(), point.as_ptr(), point.len(),
-                    part.as_ptr(), part.len(), call, rounds,
-                )
-            };
-            assert!(served);
-            out
-        })
-    };
+    let library = |number| library::call(&entries, &point, &part, number);
     let base = &entries[..1 << variables];
     let ext = extensions(&entries);
     let (z, part) = (extensions(&point), extensions(&part));
@@ -196,48 +143,25 @@ fn calls(variables: usize) {
 fn batches(variables: usize, points: usize) {
     let rows = words(4 * variables * points, 4);
     let scalars = words(4 * points, 5);
-    let library = |rounds: usize| {
-        let mut out = ZERO;
-        let served = unsafe {
-            mlu_bench_batch(
-                out.as_mut_ptr(), out.len(), rows.as_ptr(), rows.len(), scalars.as_ptr(), scalars.len(), variables, rounds,
-            )
-        };
-        assert!(served);
-        out
-    };
     let coordinates = extensions(&rows);
     let columns: Vec<Vec<Ext>> = (0..points).map(|j| (0..variables).map(|i| coordinates[i * points + j]).collect()).collect();
     let factors = extensions(&scalars);
     let rust = repeated(|| plain::batch(&columns, &factors)[0]);
-    row(&format!("`eval_eq_batch`, points: {points}"), variables, [rust, Box::new(library)]);
+    row(&format!("`eval_eq_batch`, points: {points}"), variables, [rust, library::batch(&rows, &scalars, variables)]);
 }
 
 fn sumcheck(variables: usize) {
     let entries = words(4 << variables, 6);
     let point = words(4 * variables, 7);
     let challenges = words(4 * variables, 8);
-    let library = |call: u32| -> Repeated {
-        let (entries, point, challenges) = (&entries, &point, &challenges);
-        Box::new(move |rounds| {
-            let mut out = ZERO;
-            let served = unsafe {
-                mlu_bench_rounds(
-                    out.as_mut_ptr(), out.len(), entries.as_ptr(), entries.len(), point.as_ptr(), point.len(),
-                    challenges.as_ptr(), challenges.len(), call, rounds,
-                )
-            };
-            assert!(served);
-            out
-        })
-    };
-    let (poly, z, challenges) = (extensions(&entries), extensions(&point), extensions(&challenges));
+    let library = |number| library::rounds(&entries, &point, &challenges, number);
+    let (poly, z, values) = (extensions(&entries), extensions(&point), extensions(&challenges));
     let halves = z.split_at(z.len() / 2);
     let (left, right) = (plain::table(halves.0, ONE), plain::table(halves.1, ONE));
-    let whole = || plain::sumcheck(&poly, &left, &right, &challenges).1.into_iter().fold(ZERO, add);
+    let whole = || plain::sumcheck(&poly, &left, &right, &values).1.into_iter().fold(ZERO, add);
     row("sumcheck run", variables, [repeated(whole), library(0)]);
     let weights = plain::table(&z, ONE);
-    one_round(variables, &poly, &weights, challenges[0], library);
+    one_round(variables, &poly, &weights, values[0], library);
 }
 
 /// A round and its fold beside the fold alone and one pass over both tables, interleaved. The last row is
@@ -286,6 +210,9 @@ fn one_round<'a>(variables: usize, poly: &'a [Ext], weights: &'a [Ext], r: Ext, 
 }
 
 fn main() {
+    if let Some(asked) = rows::Asked::read() {
+        return rows::print(&asked);
+    }
     if std::env::args().len() == 1 {
         operations();
     }
