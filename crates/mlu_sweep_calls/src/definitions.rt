@@ -35,6 +35,37 @@ pub fn next_by<R: PrimeCharacteristicRing>(
     next(alloc, entries, end)
 }
 
+/// The first powers of an element, from its power 0 on.
+pub fn powers<R: PrimeCharacteristicRing>(
+    alloc: Global,
+    x: R,
+    count: usize,
+) -> Result<Vec<R>, AllocError> {
+    let mut powers = Vec::new(alloc);
+    let mut power = R::ONE;
+    for _ in 0..count {
+        powers.push(power)?;
+        power = power * x;
+    }
+    Ok(powers)
+}
+
+/// Twos, with `a` times each weight added to its place and `b` times the weight before it, or the
+/// boundary to the first place.
+pub fn two_and_steps<R: PrimeCharacteristicRing>(
+    alloc: Global,
+    weights: &[R],
+    (a, b, boundary): (R, R, R),
+) -> Result<Vec<R>, AllocError> {
+    let mut sums = Vec::new(alloc);
+    let mut before = boundary;
+    for weight in weights {
+        sums.push(R::TWO + a * *weight + before)?;
+        before = b * *weight;
+    }
+    Ok(sums)
+}
+
 /// The coordinates in column `i` of rows of `points` each.
 fn column<R: Copy>(
     alloc: Global,

@@ -9,10 +9,11 @@ mod batches;
 mod definitions;
 mod draws;
 mod folds;
+mod points;
 mod polys;
 mod report;
+mod shapes;
 mod splits;
-mod sweep;
 
 pub use report::Difference;
-pub use sweep::sweep;
+pub use shapes::sweep;

@@ -6,7 +6,7 @@ use crate::report::Report;
 use mlu_ring::{ExtensionField, Field, PackedValue};
 use mlu_test_support::plain;
 use multilinear_util::point::{Point, Successor};
-use multilinear_util::poly::Poly;
+use multilinear_util::poly::{Poly, PolyMaybePacked};
 use std::alloc::{AllocError, Global};
 
 /// Compares the values of polynomials with as many variables as the point has coordinates.
@@ -66,6 +66,34 @@ pub fn evaluate_lanes<F: Field, EF: ExtensionField<F>>(
         value,
         plain::dot(&weights, ext.as_slice()),
     );
+    Ok(())
+}
+
+/// Compares the value of a polynomial in either storage, in lanes where there are values for one
+/// packing.
+pub fn evaluate_storages<F: Field, EF: ExtensionField<F>>(
+    alloc: Global,
+    report: &mut Report,
+    point: &Point<EF>,
+    ext: &Poly<EF>,
+) -> Result<(), AllocError> {
+    let weights = table(alloc, point.as_slice(), EF::ONE)?;
+    let defined = plain::dot(&weights, ext.as_slice());
+    let mut storage: PolyMaybePacked<F, EF> = PolyMaybePacked::Scalar(ext.try_clone(alloc)?);
+    if storage.num_variables() != point.num_variables() {
+        return Err(AllocError);
+    }
+    let value = storage.eval(alloc, point)?;
+    report.value("PolyMaybePacked::eval", value, defined);
+    if ext.num_evals() < F::Packing::WIDTH {
+        return Ok(());
+    }
+    storage = PolyMaybePacked::Packed(ext.pack::<F, EF>(alloc)?);
+    if storage.num_variables() != point.num_variables() {
+        return Err(AllocError);
+    }
+    let value = storage.eval(alloc, point)?;
+    report.value("PolyMaybePacked::eval of lanes", value, defined);
     Ok(())
 }
 

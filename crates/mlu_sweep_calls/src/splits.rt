@@ -2,9 +2,10 @@
 ghost use Rattle.std.specs.Prelude.{◌≡◌, ◌*◌, ◌≤◌, length};
 ghost use Rattle.multilinear_util.specs.Split.{split_entries};
 
-use crate::definitions::{next_by, table};
+use crate::definitions::{next_by, table, two_and_steps};
 use crate::report::Report;
 use mlu_ring::{ExtensionField, Field, PackedValue};
+use mlu_test_support::lists::filled;
 use mlu_test_support::plain;
 use multilinear_util::point::{Point, Successor};
 use multilinear_util::poly::Poly;
@@ -28,10 +29,35 @@ pub fn compare<F: Field, EF: ExtensionField<F>>(
     report.shape.split = " (new_unpacked)";
     let unpacked = SplitEq::<F, EF>::new_unpacked(alloc, point, scale)?;
     compare_entries(alloc, report, &unpacked, &entries, base, ext)?;
+    step_in_second_half(alloc, report, &unpacked, point)?;
     report.shape.split = " (new_packed)";
     let packed = SplitEq::<F, EF>::new_packed(alloc, point, scale)?;
     compare_entries(alloc, report, &packed, &entries, base, ext)?;
+    step_in_second_half(alloc, report, &packed, point)?;
     report.shape.split = "";
+    Ok(())
+}
+
+/// Compares the step to the next row that the second half adds to twos, with the weights of the last
+/// coordinates.
+fn step_in_second_half<F: Field, EF: ExtensionField<F>>(
+    alloc: Global,
+    report: &mut Report,
+    split: &SplitEq<F, EF>,
+    point: &Point<EF>,
+) -> Result<(), AllocError> {
+    let half = &point.as_slice()[point.num_variables() / 2..];
+    let weights = table(alloc, half, EF::ONE)?;
+    let mut out = filled(alloc, EF::TWO, weights.len())?;
+    if split.eq1().num_variables() != half.len() {
+        return Err(AllocError);
+    }
+    let (a, b, boundary) = (EF::NEG_ONE, split.last_scalar(), EF::TWO);
+    split
+        .eq1()
+        .accumulate_next_chunk_into(out.as_mut_slice(), a, b, boundary);
+    let sums = two_and_steps(alloc, &weights, (a, b, boundary))?;
+    report.values("EqMaybePacked::accumulate_next_chunk_into", &out, &sums);
     Ok(())
 }
 
@@ -174,6 +200,12 @@ fn compress<F: Field, EF: ExtensionField<F>>(
     let suffix = plain::compressed_suffix(alloc, entries, images)?;
     let left = split.compress_suffix(alloc, base.as_view())?;
     report.values("SplitEq::compress_suffix", left.as_slice(), &suffix);
+    let mut out = filled(alloc, EF::TWO, suffix.len())?;
+    if out.len().checked_mul(entries.len()) != Some(base.num_evals()) {
+        return Err(AllocError);
+    }
+    split.compress_suffix_into(out.as_mut_slice(), base.as_view());
+    report.values("SplitEq::compress_suffix_into", &out, &suffix);
     let prefix = plain::compressed_prefix(alloc, entries, images)?;
     let left = split.compress_prefix(alloc, base.as_view())?;
     report.values("SplitEq::compress_prefix", left.as_slice(), &prefix);

@@ -2,7 +2,7 @@
 
 use crate::draws::{element, elements, polynomial};
 use crate::report::{Difference, Report};
-use crate::{batches, folds, polys, splits};
+use crate::{batches, folds, points, polys, splits};
 use mlu_ring::{ExtensionField, Field, Sample};
 use multilinear_util::point::Point;
 use multilinear_util::poly::Poly;
@@ -66,11 +66,12 @@ fn at_a_point<F: Field, EF: ExtensionField<F> + Sample>(
     if base.num_variables() == coordinates {
         polys::evaluate(alloc, report, &point, (base, ext))?;
         polys::evaluate_lanes::<F, EF>(alloc, report, &point, ext)?;
+        polys::evaluate_storages::<F, EF>(alloc, report, &point, ext)?;
     }
     Ok(())
 }
 
-/// Compares the tables of a drawn point of so many coordinates, and batches of tables.
+/// Compares values at drawn points of so many coordinates, the tables of one, and batches of tables.
 fn tables<F: Field + Sample, EF: ExtensionField<F> + Sample>(
     alloc: Global,
     report: &mut Report,
@@ -79,6 +80,8 @@ fn tables<F: Field + Sample, EF: ExtensionField<F> + Sample>(
 ) -> Result<(), AllocError> {
     let point = Point::new(elements::<EF>(alloc, rng, variables)?);
     let scale = element(rng);
+    points::over_both::<F, EF>(alloc, report, rng, variables)?;
+    points::steps::<EF>(alloc, report, rng, variables)?;
     polys::tabulate::<F, EF>(alloc, report, &point, scale)?;
     polys::tabulate_lanes::<F, EF>(alloc, report, &point, scale)?;
     for points in POINTS {
