@@ -1,5 +1,5 @@
 //! Commutative rings with one.
-ghost use Rattle.std.specs.Prelude.{◌≡◌, ◌∷◌, [], IfOk, if◌then◌else◌, replicate};
+ghost use Rattle.std.specs.Prelude.{◌≡◌, ◌∷◌, [], IfOk, IsOk, if◌then◌else◌, replicate};
 ghost use Rattle.mlu_ring.specs.Tables.{pair};
 
 use crate::additive::Additive;
@@ -45,12 +45,13 @@ pub trait PrimeCharacteristicRing: Additive + Mul<Self, Output = Self> {
         l.0 * r.0 + l.1 * r.1 + (l.2 * r.2 + l.3 * r.3)
     }
 
-    /// `len` zeros, in one growth of exactly that many elements.
+    /// `len` zeros, in one growth of exactly that many elements. None at all do not fail.
     ///
     /// # Errors
     /// Where the growth is refused.
     final fn zero_vec(alloc: Global, len: usize) -> Result<Vec<Self>, AllocError>
-        ensures { IfOk result (λ zeros. zeros.items ≡ replicate len Self.ring.zero) }
+        ensures zeros { IfOk result (λ zeros. zeros.items ≡ replicate len Self.ring.zero) }
+        ensures none { len ≡ 0 → IsOk result }
     {
         let mut zeros = Vec::with_capacity(alloc, len)?;
         zeros.resize(len, Self::ZERO)?;
