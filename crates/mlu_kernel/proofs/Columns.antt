@@ -1,5 +1,6 @@
 -- Columns of coefficients, one more at a time, and rows in packed values.
 use Rattle.std.proofs.Common.{◌≡◌, ℕ, ◌+◌, ◌*◌, ◌<◌, List, [], ◌∷◌, ◌++◌, map, length, take, set, ap, sym, ◌∙◌, arith, zero-add}
+use Rattle.std.specs.List.{range_with_len}
 use Rattle.std.proofs.lemmas.Grind.{flat_map-append}
 use Rattle.std.proofs.lemmas.List.{take_more_set, map-append, append-nil}
 use Rattle.std.proofs.Math.Seq.{take-add}
@@ -30,3 +31,11 @@ lanes-more lanes n blocks row loaded i v p h before loads is width =
     ∙ ap (λ l. take (i * n) row ++ l) (append-nil (lanes p) ∙ loads ∙ is ∙ ap (λ w. row_at w row i) width)
     ∙ sym (take-add (i * n) n row)
     ∙ ap (λ m. take m row) next
+
+-- one more value is written
+pub values-more : {R : Type 0} (f : ℕ → R) (out : List R) (y : ℕ) (x : R) → y < length out → take y out ≡ map f (range_with_len 0 y) → x ≡ f y → take (y + 1) (set out y x) ≡ map f (range_with_len 0 (y + 1))
+values-more f out y x h before is =
+    take_more_set out y x h
+    ∙ ap (λ l. l ++ x ∷ []) before
+    ∙ ap (λ v. map f (range_with_len 0 y) ++ v ∷ []) (is ∙ ap f (sym (zero-add y)))
+    ∙ sym (map_range-add f 0 y 1)

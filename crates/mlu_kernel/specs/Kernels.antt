@@ -1,8 +1,10 @@
 -- The sums that the kernels compute.
-use Rattle.std.specs.Prelude.{◌+◌, ◌*◌, List, map, length, slice_index_or}
+use Rattle.std.specs.Prelude.{ℕ, ◌+◌, ◌*◌, List, map, length, slice_index_or}
 use Rattle.std.specs.List.{range_with_len}
+use Rattle.mlu_ring.specs.Matrices.{row_at}
 use Rattle.mlu_ring.specs.Ring.{Ring}
 use Rattle.mlu_ring.specs.Sums.{sum_below}
+use Rattle.mlu_ring.specs.Tables.{pair}
 
 -- the sum over j and i of rows[j] times w[i] times e[j * n + i], where n is the length of w
 unfoldable pub double_sum : {R : Type 0} → Ring R → List R → List R → List R → R
@@ -15,3 +17,7 @@ unfoldable pub plus_rows : {R : Type 0} → Ring R → List R → List R → Lis
 plus_rows ring old w e =
     let s = length old in
     map (λ z. ring.sum (slice_index_or old z ring.zero) (sum_below ring (length w) (λ y. ring.product (slice_index_or w y ring.zero) (slice_index_or e (y * s + z) ring.zero)))) (range_with_len 0 s)
+
+-- entry y is the dot of w with row y of e, where rows are as long as w
+abbrev pub dots_of_rows : {R : Type 0} → Ring R → List R → List R → ℕ → List R
+dots_of_rows ring w e rows = map (λ y. pair ring w (row_at (length w) e y)) (range_with_len 0 rows)

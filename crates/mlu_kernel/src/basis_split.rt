@@ -66,49 +66,39 @@ fn coefficient_column<F: Field, EF: ExtensionField<F>>(
 }
 
 /// [`row_dot_in_lanes`](crate::one_row::row_dot_in_lanes) of row `j` of so many rows, from the
-/// columns of the weights.
+/// columns of the weights. The row is loaded into `blocks`, a place for each weight.
 #[inline]
 pub(crate) fn row_dot_by_columns<F: Field, EF: ExtensionField<F>, const D: usize>(
     weights: &[EF::ExtensionPacking],
     split: &[[F::Packing; MOST_WEIGHTS]; D],
+    blocks: &mut [F::Packing],
     chunk: &[F],
     rows: usize,
     j: usize,
 ) -> EF::ExtensionPacking
     requires split { AreColumns EF.ExtensionPacking.packed_coefficients F.Packing.ring.zero EF.DIMENSION
         (type_size F.Packing.row) weights.now split.now }
+    requires places { length blocks.old ≡ length weights.now }
     requires entries { length chunk.now ≡ rows * (length weights.now * F.Packing.WIDTH) }
     requires row { j < rows }
     ensures { sum_of EF.ring (EF.ExtensionPacking.ext_lanes result)
         ≡ pair EF.ring (logical EF.ExtensionPacking.ext_lanes weights.now)
         (map EF.embed (row_at (length weights.now * F.Packing.WIDTH) chunk.now j)) }
 {
-    let blocks = packed_row::<F>(chunk, rows, j, weights.len());
-    let sums = column_dots::<F, D>(split, &blocks[..weights.len()]);
+    load_row(blocks, row_of(chunk, rows, j));
+    let sums = column_dots::<F, D>(split, blocks);
     joined::<F, EF, D>(sums)
 }
 
-/// Row `j` of so many rows, in `n` packed values, and zeros past them.
+/// Loads the row, a packed value to each place.
 #[inline]
-fn packed_row<F: Lanewise>(
-    chunk: &[F],
-    rows: usize,
-    j: usize,
-    n: usize,
-) -> [F::Packing; MOST_WEIGHTS]
-    requires short { n ≤ MOST_WEIGHTS }
-    requires small { type_size F.Packing.row < SMALL_BYTES }
-    requires entries { length chunk.now ≡ rows * (n * F.Packing.WIDTH) }
-    requires row { j < rows }
-    ensures long { length result ≡ MOST_WEIGHTS }
-    ensures lanes { logical F.Packing.lanes (take n result) ≡ row_at (n * F.Packing.WIDTH) chunk.now j }
+fn load_row<F: Lanewise>(blocks: &mut [F::Packing], row: &[F])
+    requires { length row.now ≡ length blocks.old * F.Packing.WIDTH }
+    ensures { logical F.Packing.lanes blocks.new ≡ row.now }
 {
-    let row = row_of(chunk, rows, j);
-    let mut packed = [F::Packing::ZERO; MOST_WEIGHTS];
-    for i in 0..n {
-        packed[i] = F::Packing::load(row_of_width(row, F::Packing::WIDTH, i));
+    for i in 0..blocks.len() {
+        blocks[i] = F::Packing::load(row_of_width(row, F::Packing::WIDTH, i));
     }
-    packed
 }
 
 /// The dot of each column's first places with the packed row.

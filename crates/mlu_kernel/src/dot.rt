@@ -76,9 +76,11 @@ fn rows_by_columns<F: Field, EF: ExtensionField<F>, const D: usize>(
     ensures { result ≡ double_sum EF.ring eq0.now
         (logical EF.ExtensionPacking.ext_lanes eq1.now) (map EF.embed chunk.now) }
 {
+    let mut blocks = [F::Packing::ZERO; MOST_WEIGHTS];
     let mut sum = EF::ExtensionPacking::ZERO;
     for j in 0..eq0.len() {
-        let dot = row_dot_by_columns::<F, EF, D>(eq1, split, chunk, eq0.len(), j);
+        let row = &mut blocks[..eq1.len()];
+        let dot = row_dot_by_columns::<F, EF, D>(eq1, split, row, chunk, eq0.len(), j);
         let scaled = dot.scale(eq0[j]);
         sum = sum + scaled;
     }

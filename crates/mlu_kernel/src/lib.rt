@@ -19,6 +19,7 @@ mod dot;
 mod four_rows;
 pub mod one_row;
 mod prefix;
+pub mod rows;
 mod small;
 
 pub use basis_dot::packed_basis_dot;

@@ -13,9 +13,8 @@ returns g c =
     let ring = g.F.Packing.Additive.ring in
     let weights = c.args.weights.now in
     let n = length c.args.weights.now in
-    let bs = take n c.packed_row-blocks.result in
-    let fits : length c.args.weights.now ≤ length c.packed_row-blocks.result = omega arith in
-    let many : length (take (length c.args.weights.now) c.packed_row-blocks.result) ≡ length c.args.weights.now = length-take-le n c.packed_row-blocks.result fits in
+    let bs = c.load_row.new.blocks in
+    let many : length c.load_row.new.blocks ≡ length c.args.weights.now = c.load_row.auto.blocks ∙ c.requires.places in
     let laws : IsPackedExtension g.F.Additive.ring g.EF.Additive.ring g.F.Packing.Additive.ring g.EF.ExtensionPacking.Additive.ring g.F.Packing.PackedValue.WIDTH g.EF.ExtensionField.DIMENSION
     g.F.Packing.PackedValue.lanes g.F.Packing.PackedValue.of_lanes g.EF.ExtensionField.coefficients
     ext.ext_lanes ext.of_ext_lanes ext.packed_coefficients ext.of_packed_coefficients
@@ -40,4 +39,4 @@ returns g c =
     ∙ c.column_dots-sums.ensures
     ∙ ap (λ k. dots bs (map (take k) c.args.split.now)) many
     ∙ ap (dots bs) c.requires.split.begin)
-    ∙ ap (λ l. pair g.EF.Additive.ring (logical ext.ext_lanes weights) (map g.EF.Algebra.embed l)) c.packed_row-blocks.ensures.lanes
+    ∙ ap (λ l. pair g.EF.Additive.ring (logical ext.ext_lanes weights) (map g.EF.Algebra.embed l)) (c.load_row.ensures ∙ c.row_of.ensures.exact _ c.requires.entries)
