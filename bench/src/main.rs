@@ -164,10 +164,11 @@ fn sumcheck(variables: usize) {
     one_round(variables, &poly, &weights, values[0], library);
 }
 
-/// A round and its fold beside the fold alone and one pass over both tables, interleaved. The last row is
-/// the first, to the sum of those two, each less its copies.
+/// A round and its fold, with its claim known and without, beside the fold alone and one pass over both
+/// tables, interleaved. The last rows are the first two, to the sum of those two, each less its copies.
 fn one_round<'a>(variables: usize, poly: &'a [Ext], weights: &'a [Ext], r: Ext, library: impl Fn(u32) -> Repeated<'a>) {
     let names = [
+        "sumcheck round of a claim and fold, and copies",
         "sumcheck round and fold, and copies",
         "sumcheck fold, and copies",
         "sumcheck copies",
@@ -182,6 +183,11 @@ fn one_round<'a>(variables: usize, poly: &'a [Ext], weights: &'a [Ext], r: Ext, 
         plain::fold(&mut weights, r);
         add(poly[0], weights[0])
     };
+    let round_of_claim_and_fold = move || {
+        let tables = copies();
+        let value = plain::value_at(plain::round_of_claim(&tables[0], &tables[1], r), r);
+        add(value, folded(tables))
+    };
     let round_and_fold = move || {
         let tables = copies();
         let value = plain::value_at(plain::round(&tables[0], &tables[1]), r);
@@ -192,6 +198,7 @@ fn one_round<'a>(variables: usize, poly: &'a [Ext], weights: &'a [Ext], r: Ext, 
         add(poly[0], weights[0])
     };
     let sides = [
+        repeated(round_of_claim_and_fold), library(5),
         repeated(round_and_fold), library(4),
         repeated(move || folded(copies())), library(3),
         repeated(copied), library(2),
@@ -202,11 +209,14 @@ fn one_round<'a>(variables: usize, poly: &'a [Ext], weights: &'a [Ext], r: Ext, 
         assert_eq!(sides[2 * i](3), sides[2 * i + 1](3), "{name}");
         print_row(name, variables, times[2 * i], times[2 * i + 1]);
     }
-    let to_both = |side: usize| {
-        let [both, fold, copies, pass] = [0, 2, 4, 6].map(|i| times[i + side]);
+    let to_both = |first: usize, side: usize| {
+        let [both, fold, copies, pass] = [first, 4, 6, 8].map(|i| times[i + side]);
         (both - copies) / (fold - copies + pass)
     };
-    println!("| sumcheck round and fold, to fold and one pass | {variables} | {:.2} | {:.2} | |", to_both(0), to_both(1));
+    for (name, first) in [("round of a claim", 0), ("round", 2)] {
+        let [rust, library] = [0, 1].map(|side| to_both(first, side));
+        println!("| sumcheck {name} and fold, to fold and one pass | {variables} | {rust:.2} | {library:.2} | |");
+    }
 }
 
 fn main() {

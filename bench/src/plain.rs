@@ -184,6 +184,18 @@ pub fn round(poly: &[Ext], weights: &[Ext]) -> [Ext; 3] {
     [at_zero, sub(sub(at_one, at_zero), quadratic), quadratic]
 }
 
+/// The round that adds up to the claim.
+pub fn round_of_claim(poly: &[Ext], weights: &[Ext], claim: Ext) -> [Ext; 3] {
+    let (low, high) = poly.split_at(poly.len() / 2);
+    let (low_weights, high_weights) = weights.split_at(weights.len() / 2);
+    let [mut at_zero, mut quadratic] = [ZERO; 2];
+    for ((x, y), (v, w)) in low.iter().zip(high).zip(low_weights.iter().zip(high_weights)) {
+        at_zero = add(at_zero, mul(*v, *x));
+        quadratic = add(quadratic, mul(sub(*w, *v), sub(*y, *x)));
+    }
+    [at_zero, sub(sub(sub(claim, at_zero), at_zero), quadratic), quadratic]
+}
+
 /// The value of a round at `r`.
 pub fn value_at([constant, linear, quadratic]: [Ext; 3], r: Ext) -> Ext {
     add(constant, mul(r, add(linear, mul(r, quadratic))))
@@ -195,13 +207,15 @@ pub fn sumcheck(poly: &[Ext], left: &[Ext], right: &[Ext], challenges: &[Ext]) -
     let mut poly = poly.to_vec();
     let mut weights: Vec<Ext> = left.iter().flat_map(|x| right.iter().map(|y| mul(*x, *y))).collect();
     let mut rounds = Vec::with_capacity(challenges.len());
-    let mut claims = vec![products(&poly, &weights)];
+    let mut claim = products(&poly, &weights);
+    let mut claims = vec![claim];
     for r in challenges {
-        let round = round(&poly, &weights);
+        let round = round_of_claim(&poly, &weights, claim);
         fold(&mut poly, *r);
         fold(&mut weights, *r);
         rounds.push(round);
-        claims.push(value_at(round, *r));
+        claim = value_at(round, *r);
+        claims.push(claim);
     }
     (rounds, claims)
 }

@@ -6,7 +6,7 @@ ghost use Rattle.std.specs.Prelude.{◌*◌, ◌<◌, ◌^◌};
 ghost use Rattle.std.specs.Mem.{type_size};
 
 use mlu_ring::{ExtensionField, Field, PrimeCharacteristicRing, SelfAlgebra};
-use mlu_sumcheck::{bind, prove_round, run};
+use mlu_sumcheck::{bind, prove_round, prove_round_of_claim, run};
 use multilinear_util::point::Point;
 use multilinear_util::poly::Poly;
 use multilinear_util::split_eq::SplitEq;
@@ -74,8 +74,8 @@ fn products<R: PrimeCharacteristicRing>(poly: &[R], weights: &[R]) -> R {
     sum
 }
 
-/// The value at the challenge of the round of both tables (4), and the sum of the first entries of
-/// both, folded there (3 and 4) or as they are (2), on copies.
+/// The value at the challenge of the round of both tables (4), or of that which adds up to the challenge
+/// (5), and the sum of the first entries of both, folded there (3 to 5) or as they are (2), on copies.
 fn one_round<EF: SelfAlgebra>(
     alloc: Global,
     poly: &Poly<EF>,
@@ -90,11 +90,12 @@ fn one_round<EF: SelfAlgebra>(
     if poly.num_evals() != weights.num_evals() || poly.num_evals() < 2 {
         return Err(AllocError);
     }
-    let mut sum = EF::ZERO;
-    if call == 4 {
-        let [constant, linear, quadratic] = prove_round(&poly, &weights);
-        sum = constant + challenge * (linear + challenge * quadratic);
-    }
+    let [constant, linear, quadratic] = match call {
+        4 => prove_round(&poly, &weights),
+        5 => prove_round_of_claim(&poly, &weights, challenge),
+        _ => [EF::ZERO, EF::ZERO, EF::ZERO],
+    };
+    let sum = constant + challenge * (linear + challenge * quadratic);
     if call != 2 {
         bind(&mut poly, &mut weights, challenge);
     }
@@ -102,7 +103,7 @@ fn one_round<EF: SelfAlgebra>(
 }
 
 /// What the call with this number gives: the whole proof (0), one pass over both tables (1), copies
-/// of both (2), folded (3), and folded after their round (4).
+/// of both (2), folded (3), and folded after their round (4), or after that of a claim (5).
 fn answer<F: Field + Drop, EF: ExtensionField<F> + SelfAlgebra + Drop>(
     alloc: Global,
     tables: &Tables<F, EF>,

@@ -33,6 +33,7 @@ enum Stored<F: Field, EF: ExtensionField<F>> {
 }
 
 /// The weights, borrowed in the form that they have.
+#[derive(Drop)]
 pub(crate) enum Weights<'a, F: Field, EF: ExtensionField<F>> {
     Scalar(&'a [EF]),
     Packed(&'a [EF::ExtensionPacking]),

@@ -1,7 +1,7 @@
 //! Folds of the first variable, which join the two halves of a table.
 //!
 //! Where the number of entries is odd, the last one is left out.
-ghost use Rattle.std.specs.Prelude.{◌≡◌, ◌+◌, ◌<◌, ◌≤◌, ◌/◌, ◌%◌, [], ◌∷◌, IfOk, drop, length, map, slice_index_or, take};
+ghost use Rattle.std.specs.Prelude.{◌≡◌, ◌+◌, ◌<◌, ◌≤◌, ◌/◌, ◌%◌, [], ◌∷◌, IfOk, IsOk, drop, length, map, slice_index_or, take};
 ghost use Rattle.mlu_ring.specs.Lanes.{logical};
 ghost use Rattle.mlu_ring.specs.Tables.{front, line};
 
@@ -16,13 +16,14 @@ use std::alloc::{AllocError, Global};
 /// are the two halves.
 ///
 /// # Errors
-/// Where the memory for half a table is refused.
+/// Where the memory for half a table is refused. Fewer than two entries do not fail.
 pub fn fold_prefix<F: Additive, EF: Algebra<F>>(
     alloc: Global,
     entries: &[F],
     r: EF,
 ) -> Result<Vec<EF>, AllocError>
-    ensures { IfOk result (λ folded. folded.items ≡ front EF.ring (line EF.ring r) (map EF.embed entries.now)) }
+    ensures folded { IfOk result (λ folded. folded.items ≡ front EF.ring (line EF.ring r) (map EF.embed entries.now)) }
+    ensures few { length entries.now < 2 → IsOk result }
 {
     let half = entries.len() / 2;
     let mut folded = EF::zero_vec(alloc, half)?;
@@ -47,15 +48,16 @@ pub fn fold_prefix_at<F: Additive, EF: Algebra<F>>(entries: &[F], r: EF, index: 
 /// Asks for a whole number of packings in half a table: `W` divides `length / 2`.
 ///
 /// # Errors
-/// Where the memory for half a table is refused.
+/// Where the memory for half a table is refused. Fewer than two entries do not fail.
 pub fn fold_prefix_to_packed<F: Field, EF: ExtensionField<F>>(
     alloc: Global,
     entries: &[F],
     r: EF,
 ) -> Result<Vec<EF::ExtensionPacking>, AllocError>
     requires { (length entries.now / 2) % F.Packing.WIDTH ≡ 0 }
-    ensures { IfOk result (λ folded. logical EF.ExtensionPacking.ext_lanes folded.items
+    ensures folded { IfOk result (λ folded. logical EF.ExtensionPacking.ext_lanes folded.items
         ≡ front EF.ring (line EF.ring r) (map EF.embed entries.now)) }
+    ensures few { length entries.now < 2 → IsOk result }
 {
     let width = <F::Packing as PackedValue>::WIDTH;
     let groups = entries.len() / 2 / width;

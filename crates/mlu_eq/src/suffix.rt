@@ -1,7 +1,7 @@
 //! Folds of the last variable, which join the entries of a table that stand side by side.
 //!
 //! Where the number of entries is odd, the last one is left out.
-ghost use Rattle.std.specs.Prelude.{◌≡◌, ◌/◌, IfOk, length, map, take};
+ghost use Rattle.std.specs.Prelude.{◌≡◌, ◌/◌, ◌<◌, IfOk, IsOk, length, map, take};
 ghost use Rattle.mlu_ring.specs.Tables.{back, line};
 
 use crate::line::{interpolate_at_base, interpolate_base};
@@ -11,13 +11,14 @@ use std::alloc::{AllocError, Global};
 /// The table folded at `r`: entry `i` is `e[2i] + r * (e[2i + 1] - e[2i])`.
 ///
 /// # Errors
-/// Where the memory for half a table is refused.
+/// Where the memory for half a table is refused. Fewer than two entries do not fail.
 pub fn fold_suffix<F: Additive, EF: Algebra<F>>(
     alloc: Global,
     entries: &[F],
     r: EF,
 ) -> Result<Vec<EF>, AllocError>
-    ensures { IfOk result (λ folded. folded.items ≡ back EF.ring (line EF.ring r) (map EF.embed entries.now)) }
+    ensures folded { IfOk result (λ folded. folded.items ≡ back EF.ring (line EF.ring r) (map EF.embed entries.now)) }
+    ensures few { length entries.now < 2 → IsOk result }
 {
     let half = entries.len() / 2;
     let mut folded = EF::zero_vec(alloc, half)?;
@@ -33,7 +34,8 @@ pub fn fold_suffix_by_base<R: Additive, F: Algebra<R>>(
     entries: &[F],
     r: R,
 ) -> Result<Vec<F>, AllocError>
-    ensures { IfOk result (λ folded. folded.items ≡ back F.ring (line F.ring (F.embed r)) entries.now) }
+    ensures folded { IfOk result (λ folded. folded.items ≡ back F.ring (line F.ring (F.embed r)) entries.now) }
+    ensures few { length entries.now < 2 → IsOk result }
 {
     let half = entries.len() / 2;
     let mut folded = F::zero_vec(alloc, half)?;

@@ -20,7 +20,7 @@ mod four_rows;
 pub mod one_row;
 mod prefix;
 pub mod rows;
-mod small;
+pub mod small;
 
 pub use basis_dot::packed_basis_dot;
 pub use dot::{compress_hi_dot_packed, compress_hi_dot_packed_eager};

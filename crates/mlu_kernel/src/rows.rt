@@ -8,7 +8,9 @@ ghost use Rattle.mlu_kernel.specs.Kernels.{dots_of_rows};
 use crate::basis_split::{MOST_COEFFICIENTS, MOST_WEIGHTS, row_dot_by_columns, split_coefficients};
 use crate::one_row::{lane_sum, row_dot_in_lanes};
 use crate::small::{SMALL_BYTES, is_small};
-use mlu_ring::{Additive, ExtensionField, Field, Lanewise, PackedFieldExtension, PackedValue, row_of};
+use mlu_ring::{
+    Additive, ExtensionField, Field, Lanewise, PackedFieldExtension, PackedValue, row_of,
+};
 
 /// Writes the dot of the packed weights with each row: `out[y]` becomes the sum over logical `i` of
 /// `weights[i] * rows[y * N * W + i]`, where there are `N` packed weights of `W` lanes. What `out`

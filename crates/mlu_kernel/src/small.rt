@@ -1,14 +1,15 @@
-//! Whether elements are small enough for arrays on the stack.
+//! Whether elements are small enough for arrays on the stack. For the split tables of `mlu_eq`, not
+//! for users of the library.
 ghost use Rattle.std.specs.Prelude.{◌<◌, ◌↔◌, IsTrue};
 ghost use Rattle.std.specs.Mem.{type_size};
 
 /// The bytes that an element must stay below, so that what the kernels keep on the stack takes
 /// less than two megabytes. Packed residues have 32 at eight lanes.
-pub(crate) const SMALL_BYTES: usize = 1024;
+pub const SMALL_BYTES: usize = 1024;
 
 /// Whether a value takes few bytes: a constant, once the type is known.
 #[inline]
-pub(crate) fn is_small<T>(x: &T) -> bool
+pub fn is_small<T>(x: &T) -> bool
     ensures { IsTrue result ↔ (type_size T.row < SMALL_BYTES) }
 {
     std::mem::size_of_val(x) < SMALL_BYTES

@@ -4,6 +4,7 @@ ghost use Rattle.std.specs.Prelude.{◌≡◌, ◌<◌, ◌*◌, IfOk, length};
 use crate::both_forms::both_forms_agree;
 use mlu_ext::{ProductAlgebra, QuarticExtension};
 use mlu_kernel::one_row::{lane_sum, row_dot_in_lanes};
+use mlu_kernel::rows::row_dots;
 use mlu_kernel::{
     compress_hi_dot_packed, compress_hi_dot_packed_eager, compress_prefix_to_packed_packed,
     compress_prefix_to_packed_packed_kernel_eager,
@@ -178,7 +179,7 @@ fn rows_added_are<F: Field, EF: ExtensionField<F>>(
     Ok(added.as_slice() == expected && eager.as_slice() == expected)
 }
 
-/// Whether the dot of two rows of four lanes is 730.
+/// Whether the dots of two rows of four lanes are 30 and 70, and 30 plus ten times 70 is the dot of both.
 fn dot_of_two_rows<F: Field, EF: ExtensionField<F>>(alloc: Global) -> Result<bool, AllocError> {
     if F::Packing::WIDTH != 4 {
         return Ok(false);
@@ -186,7 +187,9 @@ fn dot_of_two_rows<F: Field, EF: ExtensionField<F>>(alloc: Global) -> Result<boo
     let eq1 = packed::<F, EF>(alloc, &elements(alloc, &[1, 2, 3, 4])?, 1)?;
     let chunk = elements(alloc, &[1, 2, 3, 4, 5, 6, 7, 8])?;
     let eq0 = elements(alloc, &[1, 10])?;
-    Ok(dots_are::<F, EF>(&eq1, &chunk, &eq0, element(730)))
+    let mut dots = elements::<EF>(alloc, &[5, 6])?;
+    row_dots::<F, EF>(&mut dots, &eq1, &chunk);
+    Ok(dots == elements(alloc, &[30, 70])? && dots_are::<F, EF>(&eq1, &chunk, &eq0, element(730)))
 }
 
 /// Whether the lanes of the dot of one row of four lanes add up to 70.

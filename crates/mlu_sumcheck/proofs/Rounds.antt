@@ -154,6 +154,16 @@ module _ {R : Type 0} (ring : Ring R) (laws : RingLaws ring) where
       ∙ ap (λ t. pair ring (lower w) (lower e) ∷ t ∷ quadratic ∷ []) (middle ∙ sym (linear-sum w e h size_w size_e))
       ∙ ap (λ t. pair ring (lower w) (lower e) ∷ (pair ring (lower w) (step ring e) ⊕ pair ring (step ring w) (lower e)) ∷ t ∷ []) (at_quadratic ∙ sym (quadratic-sum w e h size_w size_e))
 
+  -- and from the pair of the tables in place of the sum at 1
+  pub round-of_claim : (w e : List R) (h : ℕ) (low quadratic claim linear : R) → length w ≡ h + h → length e ≡ h + h
+      → low ≡ sum_below ring h (low_term ring w e) → quadratic ≡ sum_below ring h (step_term ring h w e) → claim ≡ pair ring w e
+      → linear ≡ ((claim ⊖ low) ⊖ low) ⊖ quadratic → low ∷ linear ∷ quadratic ∷ [] ≡ round ring w e
+  round-of_claim w e h low quadratic claim linear size_w size_e at_low at_quadratic at_claim at_linear =
+      let c = sum_below ring h (low_term ring w e) in
+      let u = sum_below ring h (high_term ring h w e) in
+      let high : claim ⊖ low ≡ u = ap (λ t. t ⊖ low) (at_claim ∙ pair-sum w e h size_w size_e) ∙ ap (λ t. (c ⊕ u) ⊖ t) at_low ∙ less_itself c u in
+      round-sums w e h low (claim ⊖ low) quadratic linear size_w size_e at_low high at_quadratic at_linear
+
   univariate-three : (c l q x : R) → univariate ring (c ∷ l ∷ q ∷ []) x ≡ c ⊕ ((l ⊗ x) ⊕ (q ⊗ (x ⊗ x)))
   unfolding univariate sum_below
   univariate-three c l q x = simp (sum_zero ring laws, product_one ring laws)
@@ -175,6 +185,17 @@ module _ {R : Type 0} (ring : Ring R) (laws : RingLaws ring) where
       ∙ ap (λ t. c ⊕ t) (univariate-at_one c l q)
       ∙ sym (laws.sum_assoc c c (l ⊕ q))
       ∙ sym (laws.sum_assoc (c ⊕ c) l q)
+
+  -- coefficients whose second makes up for what the claim lacks
+  pub adds_up-of_claim : (s c l q : R) → l ≡ ((s ⊖ c) ⊖ c) ⊖ q → AddsUpTo ring s (c ∷ l ∷ q ∷ [])
+  adds_up-of_claim s c l q is =
+      let rest = (s ⊖ c) ⊖ c in
+      adds_up-three c l q
+      ∙ laws.sum_assoc (c ⊕ c) l q
+      ∙ ap (λ t. (c ⊕ c) ⊕ t) (laws.sum_comm l q ∙ ap (λ t. q ⊕ t) is ∙ step_back q rest)
+      ∙ laws.sum_assoc c c rest
+      ∙ ap (λ t. c ⊕ t) (step_back c (s ⊖ c))
+      ∙ step_back c s
 
   -- the round of two tables adds up to their pair
   pub round-adds_up : (w e : List R) (h : ℕ) → length w ≡ h + h → length e ≡ h + h → AddsUpTo ring (pair ring w e) (round ring w e)

@@ -15,5 +15,5 @@ pub mod laws;
 mod prover;
 mod verifier;
 
-pub use prover::{Transcript, bind, prove_round, run};
+pub use prover::{Transcript, bind, prove_round, prove_round_of_claim, run};
 pub use verifier::{verify, verify_round};

@@ -2,7 +2,7 @@
 ghost use Rattle.std.specs.Prelude.{◌≡◌, ◌+◌, ◌/◌, ◌^◌, ◌<◌, ◌∷◌, [], length, slice_index_or, suc, IfOk};
 ghost use Rattle.mlu_ring.specs.Tables.{front, line, pair, value};
 ghost use Rattle.multilinear_util.specs.Split.{split_entries};
-ghost use Rattle.mlu_sumcheck.specs.Rounds.{round, rounds_of, Fit};
+ghost use Rattle.mlu_sumcheck.specs.Rounds.{round, rounds_of, AddsUpTo, Fit};
 
 use crate::verifier::value_at;
 use mlu_ring::{Additive, ExtensionField, Field, PrimeCharacteristicRing, SelfAlgebra};
@@ -33,6 +33,25 @@ pub fn prove_round<EF: PrimeCharacteristicRing>(poly: &Poly<EF>, weights: &Poly<
     [constant, linear, quadratic]
 }
 
+/// The round that adds up to the claim: that of [`prove_round`] where the claim is true, the sum of the
+/// products of both tables. It takes two products a pair of entries, and [`prove_round`] three.
+///
+/// Asks for equal sizes and at least one variable.
+#[inline]
+pub fn prove_round_of_claim<EF: PrimeCharacteristicRing>(
+    poly: &Poly<EF>,
+    weights: &Poly<EF>,
+    claim: EF,
+) -> [EF; 3]
+    requires sizes { length poly.now ≡ length weights.now }
+    requires variable { 1 < length poly.now }
+    ensures adds_up { AddsUpTo EF.ring claim result }
+    ensures round { claim ≡ pair EF.ring weights.now poly.now → result ≡ round EF.ring weights.now poly.now }
+{
+    let round = coefficients_of_claim(poly.as_slice(), weights.as_slice(), claim);
+    [round.0, round.1, round.2]
+}
+
 /// The coefficients of the round of two tables with as many entries, two halves each.
 fn coefficients<R: PrimeCharacteristicRing>(poly: &[R], weights: &[R]) -> (R, R, R)
     requires sizes { length poly.now ≡ length weights.now }
@@ -51,6 +70,31 @@ fn coefficients<R: PrimeCharacteristicRing>(poly: &[R], weights: &[R]) -> (R, R,
         quadratic = quadratic + (high_weight - low_weight) * (high - low);
     }
     (at_zero, at_one - at_zero - quadratic, quadratic)
+}
+
+/// The coefficients of the round that adds up to the claim.
+fn coefficients_of_claim<R: PrimeCharacteristicRing>(
+    poly: &[R],
+    weights: &[R],
+    claim: R,
+) -> (R, R, R)
+    requires sizes { length poly.now ≡ length weights.now }
+    requires halves { length poly.now ≡ length poly.now / 2 + length poly.now / 2 }
+    ensures adds_up { AddsUpTo R.ring claim (result.0 ∷ result.1 ∷ result.2 ∷ []) }
+    ensures round { claim ≡ pair R.ring weights.now poly.now
+        → result.0 ∷ result.1 ∷ result.2 ∷ [] ≡ round R.ring weights.now poly.now }
+{
+    let half = poly.len() / 2;
+    let mut at_zero = R::ZERO;
+    let mut quadratic = R::ZERO;
+    for i in 0..half {
+        let (low, low_weight) = (poly[i], weights[i]);
+        at_zero = at_zero + low_weight * low;
+        quadratic = quadratic + (weights[half + i] - low_weight) * (poly[half + i] - low);
+    }
+    let at_one = claim - at_zero;
+    let linear = at_one - at_zero - quadratic;
+    (at_zero, linear, quadratic)
 }
 
 /// Folds both tables at `r`, in place: entry `i` becomes `low[i] + r * (high[i] - low[i])`, where `low`
@@ -101,12 +145,18 @@ pub fn run<F: Field, EF: ExtensionField<F> + SelfAlgebra>(
     claims.push(first)?;
     let mut poly = poly;
     let mut weights = weights;
+    let mut claim = first;
     for challenge in challenges {
         let r = *challenge;
-        let (constant, linear, quadratic) = coefficients(poly.as_slice(), weights.as_slice());
+        let (constant, linear, quadratic) = coefficients_of_claim(
+            poly.as_slice(),
+            weights.as_slice(),
+            claim,
+        );
         bind(&mut poly, &mut weights, r);
         rounds.push([constant, linear, quadratic])?;
-        claims.push(value_at(constant, linear, quadratic, r))?;
+        claim = value_at(constant, linear, quadratic, r);
+        claims.push(claim)?;
     }
     Ok(Transcript { rounds, claims })
 }

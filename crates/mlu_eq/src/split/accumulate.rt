@@ -68,7 +68,7 @@ pub(crate) fn add_weights<F: Field, EF: ExtensionField<F>>(
 }
 
 /// Adds each of the weights, times `scale` and an entry of `eq0`, to its place in that entry's row.
-fn add_packed_rows<F: Field, EF: ExtensionField<F>>(
+pub(super) fn add_packed_rows<F: Field, EF: ExtensionField<F>>(
     eq0: &[EF],
     out: &mut [EF::ExtensionPacking],
     weights: &[EF::ExtensionPacking],

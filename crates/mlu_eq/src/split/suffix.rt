@@ -1,11 +1,22 @@
 //! Rows of a table, each compressed by the split table to one entry.
-ghost use Rattle.std.specs.Prelude.{◌≡◌, ◌<◌, ◌*◌, length, map};
+ghost use Rattle.std.specs.Prelude.{◌≡◌, ◌<◌, ◌≤◌, ◌*◌, length, map, IsTrue};
+ghost use Rattle.std.specs.Mem.{type_size};
+ghost use Rattle.mlu_ring.specs.Lanes.{logical};
 ghost use Rattle.mlu_ring.specs.Tables.{back};
+ghost use Rattle.mlu_kernel.specs.declared.small.TheConstants.{SMALL_BYTES};
 ghost use Rattle.mlu_eq.specs.Split.{contents};
 
+use super::accumulate::add_packed_rows;
 use super::dot::dot_base;
-use crate::half::EqMaybePacked;
-use mlu_ring::{ExtensionField, Field, PackedFieldExtension, row_of};
+use crate::half::{EqMaybePacked, Weights};
+use mlu_kernel::rows::row_dots;
+use mlu_kernel::small::is_small;
+use mlu_ring::{
+    Additive, ExtensionField, Field, PackedFieldExtension, PrimeCharacteristicRing, row_of,
+};
+
+/// With more packed entries than these a split table is not joined.
+const MOST_JOINED: usize = 128;
 
 /// Writes the dot of the split table with each row of `entries`. What `out` held does not
 /// count.
@@ -22,7 +33,39 @@ pub fn compress_suffix_into<F: Field, EF: ExtensionField<F>>(
     ensures { out.new ≡ back EF.ring (contents EF.ring eq0.now eq1.now.weights) (map EF.embed entries.now) }
 {
     eq1.is_not_empty();
+    if let Weights::Packed(weights) = eq1.weights() {
+        if can_be_joined::<F, EF>(eq0.len(), weights.len()) {
+            return compress_by_joined::<F, EF>(eq0, weights, out, entries);
+        }
+    }
     for y in 0..out.len() {
         out[y] = dot_base(eq0, eq1, row_of(entries, out.len(), y));
     }
+}
+
+/// Whether the products of so many entries and so many packed weights have room on the stack.
+#[inline]
+fn can_be_joined<F: Field, EF: ExtensionField<F>>(rows: usize, weights: usize) -> bool
+    ensures { IsTrue result → (rows * weights ≤ MOST_JOINED) × (type_size EF.ExtensionPacking.row < SMALL_BYTES) }
+{
+    rows.saturating_mul(weights) <= MOST_JOINED && is_small(&EF::ExtensionPacking::ZERO)
+}
+
+/// The same, with the products of both halves written once, for all rows.
+fn compress_by_joined<F: Field, EF: ExtensionField<F>>(
+    eq0: &[EF],
+    weights: &[EF::ExtensionPacking],
+    out: &mut [EF],
+    entries: &[F],
+)
+    requires some { 0 < length eq0.now * (length weights.now * F.Packing.WIDTH) }
+    requires few { length eq0.now * length weights.now ≤ MOST_JOINED }
+    requires small { type_size EF.ExtensionPacking.row < SMALL_BYTES }
+    requires size { length entries.now ≡ length out.old * (length eq0.now * (length weights.now * F.Packing.WIDTH)) }
+    ensures { out.new ≡ back EF.ring (contents EF.ring eq0.now (logical EF.ExtensionPacking.ext_lanes weights.now)) (map EF.embed entries.now) }
+{
+    let mut places = [EF::ExtensionPacking::ZERO; MOST_JOINED];
+    let joined = &mut places[..eq0.len() * weights.len()];
+    add_packed_rows::<F, EF>(eq0, joined, weights, EF::ONE);
+    row_dots::<F, EF>(out, joined, entries);
 }

@@ -3,7 +3,9 @@ ghost use Rattle.std.specs.Prelude.{◌≡◌, ◌*◌, ◌<◌, ◌^◌, IfOk, 
 ghost use Rattle.std.specs.Mem.{type_size};
 
 use mlu_ring::{Additive, ExtensionField, Field, PrimeCharacteristicRing, SelfAlgebra};
-use mlu_sumcheck::{Transcript, bind, laws, prove_round, run, verify, verify_round};
+use mlu_sumcheck::{
+    Transcript, bind, laws, prove_round, prove_round_of_claim, run, verify, verify_round,
+};
 use mlu_test_support::numbers::{are, element, elements};
 use mlu_test_tables::{point, table};
 use multilinear_util::split_eq::SplitEq;
@@ -30,16 +32,21 @@ pub fn gives_the_transcript<F: Field, EF: ExtensionField<F> + SelfAlgebra>(
     Ok(are(claims.as_slice(), &[8, 196, 8316]) && rounds.as_slice() == expected.as_slice())
 }
 
-/// Whether the tables, the weights written out, give their first round, and are folded at 5.
+/// Whether the tables, the weights written out, give their first round, that which adds up to 8 is the
+/// same, and that which adds up to 9 is not; and whether they are folded at 5.
 pub fn proves_and_binds<EF: SelfAlgebra>(alloc: Global) -> Result<bool, AllocError>
     requires two_rounds_fit { 6 * type_size EF.row < 2 ^ 63 }
 {
     let mut poly = table::<EF>(alloc, &[1, 2, 3, 4])?;
     let mut weights = table::<EF>(alloc, &[2, -3, -4, 6])?;
     let first = prove_round(&poly, &weights);
+    let of_claim = prove_round_of_claim(&poly, &weights, element(8));
+    let of_false_claim = prove_round_of_claim(&poly, &weights, element(9));
     bind(&mut poly, &mut weights, element(5));
     Ok(
         first == round([-4, 10, 6])
+            && of_claim == first
+            && of_false_claim == round([-4, 11, 6])
             && are(poly.as_slice(), &[11, 12])
             && are(weights.as_slice(), &[-28, 42]),
     )

@@ -1,4 +1,4 @@
-use Rattle.std.proofs.Common.{◌≡◌, ◌*◌, ◌/◌, ◌∙◌, length, map, sym, ap, arith}
+use Rattle.std.proofs.Common.{◌≡◌, ◌*◌, ◌/◌, ◌∙◌, length, map, refl, sym, ap, arith}
 use Rattle.std.proofs.lemmas.List.{length-map}
 use Rattle.std.proofs.lemmas.Nat.{div-add-mod'}
 use Rattle.mlu_ring.specs.Tables.{front, line}
@@ -16,6 +16,9 @@ returns g c =
     let groups : length c.loop-i.folded.items ≡ half / width = c.loop-i.invariant.size ∙ ap (λ n. half / n) c.WIDTH-width.ensures in
     let whole : half ≡ half / width * width = omega (arith, div-add-mod' half width, c.requires) in
     let long : length folded ≡ half = length-front ring (line ring c.args.r) (map g.EF.Algebra.embed entries) half (ap (λ n. n / 2) (length-map entries g.EF.Algebra.embed)) in
-    flat_map-runs width g.EF.ExtensionPacking.PackedFieldExtension.ext_lanes c.loop-i.folded.items folded
-    (long ∙ whole ∙ ap (λ n. n * width) (sym groups))
-    (λ k d h. c.loop-i.invariant.done k d (omega arith))
+    record {
+      folded = flat_map-runs width g.EF.ExtensionPacking.PackedFieldExtension.ext_lanes c.loop-i.folded.items folded
+          (long ∙ whole ∙ ap (λ n. n * width) (sym groups))
+          (λ k d h. c.loop-i.invariant.done k d (omega arith));
+      few = λ h. refl;
+    }

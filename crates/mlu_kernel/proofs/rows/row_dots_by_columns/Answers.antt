@@ -1,4 +1,4 @@
-use Rattle.std.proofs.Common.{◌<◌, ◌*◌, ◌≡◌, ◌∙◌, map, length, ap, sym, arith}
+use Rattle.std.proofs.Common.{◌<◌, ◌*◌, ◌∙◌, map, length, ap, sym, arith}
 use Rattle.std.proofs.lemmas.List.{length-set}
 use Rattle.mlu_ring.specs.Lanes.{logical}
 use Rattle.mlu_ring.specs.Matrices.{row_at}

@@ -1,6 +1,6 @@
 use Rattle.std.proofs.Common.{◌≡◌, ◌+◌, ◌-◌, ◌<◌, ◌∷◌, [], suc, length, take, ap, sym, ◌∙◌, arith}
 use Rattle.std.proofs.lemmas.Nat.{pow_pos}
-use Rattle.mlu_ring.specs.Tables.{front, line, univariate}
+use Rattle.mlu_ring.specs.Tables.{front, line, pair, univariate}
 use Rattle.mlu_ring.proofs.Tabulated.{tabulate}
 use Rattle.multilinear_util.specs.Split.{split_entries}
 use Rattle.mlu_sumcheck.specs.Rounds.{round, folded, round_at}
@@ -8,8 +8,8 @@ use Rattle.mlu_sumcheck.proofs.Folded.{halves-folded_at, folded-take_more}
 use Rattle.mlu_sumcheck.proofs.Chains.{claim_at, tabulate-pushed, round_at-next, length-transcript_rounds, length-transcript_claims, transcript-fit, transcript-last}
 use Rattle.mlu_sumcheck.proofs.prover.run.Goals as goal
 
-pub coefficients-constant-requires-clause-sizes : goal.coefficients-constant-requires-clause-sizes
-coefficients-constant-requires-clause-sizes g c =
+pub coefficients_of_claim-constant-requires-clause-sizes : goal.coefficients_of_claim-constant-requires-clause-sizes
+coefficients_of_claim-constant-requires-clause-sizes g c =
     let ring = g.EF.Additive.ring in
     let challenges = c.args.challenges.now in
     let i = c.loop-challenge.challenge-index in
@@ -18,8 +18,8 @@ coefficients-constant-requires-clause-sizes g c =
     let w = ap length (c.as_slice-in-loop-challenge.ensures.value ∙ c.loop-challenge.invariant.weights) ∙ halves-folded_at ring challenges (split_entries ring c.args.weights.now) i c.requires.weights_size below in
     e ∙ sym w
 
-pub coefficients-constant-requires-clause-halves : goal.coefficients-constant-requires-clause-halves
-coefficients-constant-requires-clause-halves g c =
+pub coefficients_of_claim-constant-requires-clause-halves : goal.coefficients_of_claim-constant-requires-clause-halves
+coefficients_of_claim-constant-requires-clause-halves g c =
     let challenges = c.args.challenges.now in
     let i = c.loop-challenge.challenge-index in
     let below : i < length challenges = omega (arith, c.loop-challenge-test.true) in
@@ -58,12 +58,14 @@ loop-challenge-preserved g c =
     let next : suc i ≡ i + 1 = omega arith in
     let poly = c.as_slice.ensures.value ∙ invariant.poly in
     let weights = c.as_slice-in-loop-challenge.ensures.value ∙ invariant.weights in
-    let made = c.coefficients-constant.ensures ∙ ap (λ t. round ring t c.as_slice.result.now) weights ∙ ap (round ring (folded ring (take i challenges) w)) poly in
+    let true_claim = invariant.claim ∙ ap (λ t. pair ring t (folded ring (take i challenges) e)) (sym weights) ∙ ap (pair ring c.as_slice-in-loop-challenge.result.now) (sym poly) in
+    let made = c.coefficients_of_claim-constant.ensures.round true_claim ∙ ap (λ t. round ring t c.as_slice.result.now) weights ∙ ap (round ring (folded ring (take i challenges) w)) poly in
     let claim = c.value_at.ensures ∙ ap (λ t. univariate ring t r) made ∙ round_at-next ring laws w e challenges c.requires.weights_size c.requires.poly_size i r below c.challenge-item.is in
     record {
       poly = c.bind.ensures.poly_folded ∙ ap (front ring (line ring r)) invariant.poly ∙ sym (folded-take_more ring challenges e i r below c.challenge-item.is) ∙ ap (λ k. folded ring (take k challenges) e) next;
       weights = c.bind.ensures.weights_folded ∙ ap (front ring (line ring r)) invariant.weights ∙ sym (folded-take_more ring challenges w i r below c.challenge-item.is) ∙ ap (λ k. folded ring (take k challenges) w) next;
-      rounds = tabulate-pushed i (round_at ring w e challenges) c.loop-challenge.rounds.items c.push-in-loop-challenge.new.self.items (c.coefficients-constant.result.0 ∷ c.coefficients-constant.result.1 ∷ c.coefficients-constant.result.2 ∷ []) invariant.rounds c.in_ok-push-2.ensures.items made ∙ ap (λ k. tabulate k (round_at ring w e challenges)) next;
+      rounds = tabulate-pushed i (round_at ring w e challenges) c.loop-challenge.rounds.items c.push-in-loop-challenge.new.self.items (c.coefficients_of_claim-constant.result.0 ∷ c.coefficients_of_claim-constant.result.1 ∷ c.coefficients_of_claim-constant.result.2 ∷ []) invariant.rounds c.in_ok-push-2.ensures.items made ∙ ap (λ k. tabulate k (round_at ring w e challenges)) next;
+      claim = claim ∙ ap (claim_at ring w e challenges) next;
       claims = tabulate-pushed (suc i) (claim_at ring w e challenges) c.loop-challenge.claims.items c.push-in-loop-challenge-2.new.self.items c.value_at.result invariant.claims c.in_ok-push-3.ensures.items claim ∙ ap (λ k. tabulate (suc k) (claim_at ring w e challenges)) next;
     }
 

@@ -15,5 +15,6 @@ invariant-loop-challenge g l =
       poly : l.poly ≡ folded ring (take i l.challenges) e;
       weights : l.weights ≡ folded ring (take i l.challenges) w;
       rounds : l.rounds.items ≡ tabulate i (round_at ring w e l.challenges);
+      claim : l.claim ≡ claim_at ring w e l.challenges i;
       claims : l.claims.items ≡ tabulate (suc i) (claim_at ring w e l.challenges);
     }

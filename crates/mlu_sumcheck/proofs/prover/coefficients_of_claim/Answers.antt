@@ -1,0 +1,40 @@
+use Rattle.std.proofs.Common.{◌≡◌, ◌+◌, ◌/◌, ◌<◌, length, get_or, ap, sym, ◌∙◌, arith}
+use Rattle.std.proofs.lemmas.List.{get_or_default}
+use Rattle.mlu_ring.proofs.SumsBelow.{sum_below-zero}
+use Rattle.mlu_sumcheck.proofs.Rounds.{low_term, step_term, sum-more, round-of_claim, adds_up-of_claim}
+use Rattle.mlu_sumcheck.proofs.prover.coefficients_of_claim.Goals as goal
+
+pub loop-i-init : goal.loop-i-init
+loop-i-init g c =
+    let ring = g.R.Additive.ring in
+    let zero = g.met.R.Additive.zero_is in
+    record {
+      low = c.ZERO-at_zero.ensures ∙ zero ∙ sym (sum_below-zero ring _);
+      steps = c.ZERO-quadratic.ensures ∙ zero ∙ sym (sum_below-zero ring _);
+    }
+
+pub loop-i-preserved : goal.loop-i-preserved
+loop-i-preserved g c =
+    let ring = g.R.Additive.ring in
+    let met = g.met.R in
+    let laws = met.Additive.laws in
+    let w = c.args.weights.now in
+    let e = c.args.poly.now in
+    let h = length e / 2 in
+    let i = c.loop-i.i in
+    let within : i < length e / 2 = c.loop-i-test.true in
+    let low = c.index-poly-i.is ∙ get_or_default e i c.index-poly-i.result ring.zero (omega (arith, within)) in
+    let high = c.index-poly-half.is ∙ get_or_default e (h + i) c.index-poly-half.result ring.zero (omega (arith, within)) in
+    let low_weight = c.index-weights-i.is ∙ get_or_default w i c.index-weights-i.result ring.zero (omega (arith, within, c.requires.sizes)) in
+    let high_weight = c.index-weights-half.is ∙ get_or_default w (h + i) c.index-weights-half.result ring.zero (omega (arith, within, c.requires.sizes)) in
+    let first = met.PrimeCharacteristicRing.multiplies _ _ _ c.mul.ensures ∙ ap (λ t. ring.product t c.index-poly-i.result) low_weight ∙ ap (ring.product (get_or w i ring.zero)) low in
+    let weight_step = met.Additive.subtracts _ _ _ c.sub.ensures ∙ ap (λ t. ring.minus t c.index-weights-i.result) high_weight ∙ ap (ring.minus (get_or w (h + i) ring.zero)) low_weight in
+    let step = met.Additive.subtracts _ _ _ c.sub-in-loop-i.ensures ∙ ap (λ t. ring.minus t c.index-poly-i.result) high ∙ ap (ring.minus (get_or e (h + i) ring.zero)) low in
+    let second = met.PrimeCharacteristicRing.multiplies _ _ _ c.mul-in-loop-i.ensures ∙ ap (λ t. ring.product t c.sub-in-loop-i.result) weight_step ∙ ap (ring.product (ring.minus (get_or w (h + i) ring.zero) (get_or w i ring.zero))) step in
+    record {
+      low = sum-more ring laws i (low_term ring w e) c.loop-i.at_zero c.mul.result c.add-at_zero.result c.loop-i.invariant.low first (met.Additive.adds _ _ _ c.add-at_zero.ensures);
+      steps = sum-more ring laws i (step_term ring h w e) c.loop-i.quadratic c.mul-in-loop-i.result c.add-quadratic.result c.loop-i.invariant.steps second (met.Additive.adds _ _ _ c.add-quadratic.ensures);
+    }
+
+pub returns : goal.returns
+returns g c = ?
