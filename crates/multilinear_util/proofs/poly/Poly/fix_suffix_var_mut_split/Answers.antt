@@ -9,4 +9,4 @@ new-requires g c =
     let entries = c.as_slice.result.now in
     let more : 1 < length entries = subst (λ l. 1 < length l) (sym c.as_slice.ensures.value) c.requires in
     power_of_half (length entries) _ c.as_slice.type_inv.0 c.as_slice.ensures.power more
-    (ap length c.in_ok-fold_suffix_by_base.ensures ∙ length-back g.F.Additive.ring (line g.F.Additive.ring (g.F.Algebra.embed c.args.r)) entries)
+    (ap length c.in_ok-fold_suffix_by_base.ensures.folded ∙ length-back g.F.Additive.ring (line g.F.Additive.ring (g.F.Algebra.embed c.args.r)) entries)

@@ -5,4 +5,4 @@ use Rattle.multilinear_util.proofs.poly.Poly.zero.Goals as goal
 
 pub invariant_of-result : goal.invariant_of-result
 invariant_of-result g c =
-    is_power_of_two-power _ c.args.variables (ap length c.in_ok-evals.ensures ∙ length-replicate _ _ ∙ c.table_length.ensures)
+    is_power_of_two-power _ c.args.variables (ap length c.in_ok-evals.ensures.zeros ∙ length-replicate _ _ ∙ c.table_length.ensures)

@@ -23,6 +23,6 @@ returns-clause-ok g c =
     ∙ ap (λ m. take m (new ++ drop (length new) old)) long
     ∙ take-append_seam new (drop (length new) old)
     ∙ c.accumulate_into.ensures
-    ∙ ap (λ o. zip2 ring.sum o entries) (c.as_mut_slice.ensures.value ∙ c.in_ok-table.ensures)
+    ∙ ap (λ o. zip2 ring.sum o entries) (c.as_mut_slice.ensures.value ∙ c.in_ok-table.ensures.zeros)
     ∙ zip_zeros ring g.met.EF.Additive.laws c.in-Some.entries entries count in
     c.add_groups.ensures ∙ ap (λ v. zip2 ring.sum (logical ext.ext_lanes c.args.out.now) v) table

@@ -11,4 +11,4 @@ new-requires g c =
     let many : length (map g.EF.Algebra.embed entries) / 2 ≡ length entries / 2 = ap (λ n. n / 2) (length-map entries g.EF.Algebra.embed) in
     let more : 1 < length entries = subst (λ l. 1 < length l) (sym c.as_slice.ensures.value) c.requires in
     power_of_half (length entries) _ c.as_slice.type_inv.0 c.as_slice.ensures.power more
-    (ap length c.in_ok-fold_prefix.ensures ∙ length-front g.EF.Additive.ring (line g.EF.Additive.ring c.args.r) (map g.EF.Algebra.embed entries) (length entries / 2) many)
+    (ap length c.in_ok-fold_prefix.ensures.folded ∙ length-front g.EF.Additive.ring (line g.EF.Additive.ring c.args.r) (map g.EF.Algebra.embed entries) (length entries / 2) many)

@@ -29,5 +29,5 @@ new-requires g c =
     let folded = c.in_ok-fold_prefix_to_packed.field-0.items in
     let lanes = g.EF.ExtensionPacking.PackedFieldExtension.ext_lanes in
     let long = g.met.EF.ExtensionPacking.PackedFieldExtension.lanes_are.length-parts in
-    let rows = sym (length-logical lanes width long folded) ∙ ap length c.in_ok-fold_prefix_to_packed.ensures ∙ length-front g.EF.Additive.ring (line g.EF.Additive.ring c.args.r) (map g.EF.Algebra.embed entries) (n / 2) many in
+    let rows = sym (length-logical lanes width long folded) ∙ ap length c.in_ok-fold_prefix_to_packed.ensures.folded ∙ length-front g.EF.Additive.ring (line g.EF.Additive.ring c.args.r) (map g.EF.Algebra.embed entries) (n / 2) many in
     power_of_groups (n / 2) width g.F.Packing.PackedValue.LOG_WIDTH (omega (arith, c.as_slice.type_inv.0)) half packing.width_is within.1 (length folded) rows
