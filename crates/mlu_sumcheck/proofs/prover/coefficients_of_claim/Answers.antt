@@ -37,4 +37,18 @@ loop-i-preserved g c =
     }
 
 pub returns : goal.returns
-returns g c = ?
+returns g c =
+    let ring = g.R.Additive.ring in
+    let met = g.met.R in
+    let laws = met.Additive.laws in
+    let w = c.args.weights.now in
+    let e = c.args.poly.now in
+    let h = length e / 2 in
+    let end : c.loop-i.i ≡ length e / 2 = omega (arith, c.loop-i-test.false, c.loop-i.auto.i-end) in
+    let invariant = rw end at c.loop-i.invariant in
+    let linear = met.Additive.subtracts _ _ _ c.sub-linear.ensures ∙ ap (λ t. ring.minus t c.loop-i.quadratic) (met.Additive.subtracts _ _ _ c.sub-2.ensures ∙ ap (λ t. ring.minus t c.loop-i.at_zero) (met.Additive.subtracts _ _ _ c.sub-at_one.ensures)) in
+    record {
+      adds_up = adds_up-of_claim ring laws c.args.claim c.loop-i.at_zero c.sub-linear.result c.loop-i.quadratic linear;
+      round = λ true_claim. round-of_claim ring laws w e h c.loop-i.at_zero c.loop-i.quadratic c.args.claim c.sub-linear.result
+          (sym c.requires.sizes ∙ c.requires.halves) c.requires.halves invariant.low invariant.steps true_claim linear;
+    }

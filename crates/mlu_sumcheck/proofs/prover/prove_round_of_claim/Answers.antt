@@ -1,5 +1,7 @@
 use Rattle.std.proofs.Common.{◌<◌, ◌∙◌, length, ap, sym, subst}
+use Rattle.mlu_ring.specs.Tables.{pair}
 use Rattle.mlu_ring.proofs.PowersOfTwo.{power_of_test, half_power}
+use Rattle.mlu_sumcheck.specs.Rounds.{round}
 use Rattle.mlu_sumcheck.proofs.prover.prove_round_of_claim.Goals as goal
 
 pub coefficients_of_claim-round-requires-clause-sizes : goal.coefficients_of_claim-round-requires-clause-sizes
@@ -11,4 +13,12 @@ coefficients_of_claim-round-requires-clause-halves g c =
     (half_power _ _ (power_of_test (length c.as_slice.result.now) c.as_slice.type_inv.0 c.as_slice.ensures.power) more).2
 
 pub returns : goal.returns
-returns g c = ?
+returns g c =
+    let ring = g.EF.Additive.ring in
+    let e = c.as_slice.ensures.value in
+    let w = c.as_slice-2.ensures.value in
+    record {
+      adds_up = c.coefficients_of_claim-round.ensures.adds_up;
+      round = λ true_claim. c.coefficients_of_claim-round.ensures.round (true_claim ∙ ap (λ t. pair ring t c.args.poly.now) (sym w) ∙ ap (pair ring c.as_slice-2.result.now) (sym e))
+          ∙ ap (λ t. round ring t c.as_slice.result.now) w ∙ ap (round ring c.args.weights.now) e;
+    }

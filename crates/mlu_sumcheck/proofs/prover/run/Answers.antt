@@ -60,13 +60,13 @@ loop-challenge-preserved g c =
     let weights = c.as_slice-in-loop-challenge.ensures.value ∙ invariant.weights in
     let true_claim = invariant.claim ∙ ap (λ t. pair ring t (folded ring (take i challenges) e)) (sym weights) ∙ ap (pair ring c.as_slice-in-loop-challenge.result.now) (sym poly) in
     let made = c.coefficients_of_claim-constant.ensures.round true_claim ∙ ap (λ t. round ring t c.as_slice.result.now) weights ∙ ap (round ring (folded ring (take i challenges) w)) poly in
-    let claim = c.value_at.ensures ∙ ap (λ t. univariate ring t r) made ∙ round_at-next ring laws w e challenges c.requires.weights_size c.requires.poly_size i r below c.challenge-item.is in
+    let claim = c.value_at-claim.ensures ∙ ap (λ t. univariate ring t r) made ∙ round_at-next ring laws w e challenges c.requires.weights_size c.requires.poly_size i r below c.challenge-item.is in
     record {
       poly = c.bind.ensures.poly_folded ∙ ap (front ring (line ring r)) invariant.poly ∙ sym (folded-take_more ring challenges e i r below c.challenge-item.is) ∙ ap (λ k. folded ring (take k challenges) e) next;
       weights = c.bind.ensures.weights_folded ∙ ap (front ring (line ring r)) invariant.weights ∙ sym (folded-take_more ring challenges w i r below c.challenge-item.is) ∙ ap (λ k. folded ring (take k challenges) w) next;
       rounds = tabulate-pushed i (round_at ring w e challenges) c.loop-challenge.rounds.items c.push-in-loop-challenge.new.self.items (c.coefficients_of_claim-constant.result.0 ∷ c.coefficients_of_claim-constant.result.1 ∷ c.coefficients_of_claim-constant.result.2 ∷ []) invariant.rounds c.in_ok-push-2.ensures.items made ∙ ap (λ k. tabulate k (round_at ring w e challenges)) next;
       claim = claim ∙ ap (claim_at ring w e challenges) next;
-      claims = tabulate-pushed (suc i) (claim_at ring w e challenges) c.loop-challenge.claims.items c.push-in-loop-challenge-2.new.self.items c.value_at.result invariant.claims c.in_ok-push-3.ensures.items claim ∙ ap (λ k. tabulate (suc k) (claim_at ring w e challenges)) next;
+      claims = tabulate-pushed (suc i) (claim_at ring w e challenges) c.loop-challenge.claims.items c.push-in-loop-challenge-2.new.self.items c.value_at-claim.result invariant.claims c.in_ok-push-3.ensures.items claim ∙ ap (λ k. tabulate (suc k) (claim_at ring w e challenges)) next;
     }
 
 pub returns-clause-number_of_rounds : goal.returns-clause-number_of_rounds
