@@ -3,6 +3,7 @@ use Rattle.std.proofs.Common.{◌≡◌, ℕ, zero, suc, ◌+◌, ◌-◌, ◌*�
 use Rattle.std.specs.Simd.Lanes.{zip2}
 use Rattle.std.proofs.lemmas.List.{drop-drop, length-map}
 use Rattle.mlu_ring.specs.Ring.{Ring, RingLaws}
+use Rattle.mlu_ring.proofs.Rings.{map-one}
 use Rattle.mlu_eq.proofs.Products.{row_end}
 
 module _ {V W : Type 0} (f : V → W → V) where
@@ -63,16 +64,9 @@ module _ {R : Type 0} (ring : Ring R) (laws : RingLaws ring) where
       let rest = zip_zeros n xs (omega arith) in
       cc (first, rest)
 
-  pub map-one : (s : R) (xs : List R) → s ≡ ring.one → map (ring.product s) xs ≡ xs
-  map-one s [] is = refl
-  map-one s (x ∷ xs) is =
-      let first : ring.product s x ≡ x = ap (λ t. ring.product t x) is ∙ laws.one_product x in
-      let rest = map-one s xs is in
-      cc (first, rest)
-
   -- the values themselves, added once to zeros
   pub added_once : (n : ℕ) (old xs : List R) (s : R) → length xs ≡ n → old ≡ replicate n ring.zero → s ≡ ring.one → zip2 ring.sum old (map (ring.product s) xs) ≡ xs
   added_once n old xs s long zeros is =
       ap (λ o. zip2 ring.sum o (map (ring.product s) xs)) zeros
       ∙ zip_zeros n (map (ring.product s) xs) (length-map xs (ring.product s) ∙ long)
-      ∙ map-one s xs is
+      ∙ map-one ring laws s xs is

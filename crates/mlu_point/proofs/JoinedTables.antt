@@ -10,7 +10,8 @@ use Rattle.mlu_ring.proofs.Reversed.{length-lsb}
 use Rattle.mlu_point.specs.declared.point.order.BitOrder.{BitOrder}
 use Rattle.mlu_point.specs.declared.point.order.BitOrder.TheVariants.{Msb, Lsb}
 use Rattle.mlu_point.specs.Orders.{weights_by, with_top, joined_by, scaled_by_each}
-use Rattle.mlu_point.proofs.Tables.{weights_by-shares, weights_by-none, map-one}
+use Rattle.mlu_ring.proofs.Rings.{map-one}
+use Rattle.mlu_point.proofs.Tables.{weights_by-shares, weights_by-none}
 
 -- no high coordinates
 pub joined-none : {R : Type 0} (order : BitOrder) (high low : List R) → length high ≡ 0 → joined_by order high low ≡ low

@@ -37,11 +37,3 @@ module _ {R : Type 0} (ring : Ring R) (laws : RingLaws ring) where
   table-scale order s (x ∷ []) [] h k = rw (weights_by-none order) (ap (λ t. t ∷ []) (sym (product_one ring laws s)))
   table-scale order s (x ∷ y ∷ more) [] h k = absurd (omega arith)
   table-scale order s out (c ∷ p) h k = absurd (omega arith)
-
-  -- a scale of one changes nothing
-  pub map-one : (s : R) (ws : List R) → s ≡ 𝟙 → map (λ w. s ⊗ w) ws ≡ ws
-  map-one s [] is = refl
-  map-one s (w ∷ ws) is =
-      let first : s ⊗ w ≡ w = ap (λ t. t ⊗ w) is ∙ laws.one_product w in
-      let rest = map-one s ws is in
-      cc (first, rest)

@@ -254,7 +254,8 @@ fn add_rest<
 )
     requires some { 0 < length scalars.now }
     requires width { evals.width ≡ length scalars.now }
-    requires room { IsRoom F.Packing.WIDTH F.Packing.LOG_WIDTH (length evals.values.now / length scalars.now) (length scalars.now) (length lanes.old) (length packed.old) }
+    requires room { IsRoom F.Packing.WIDTH F.Packing.LOG_WIDTH (length evals.values.now / length scalars.now)
+        (length scalars.now) (length lanes.old) (length packed.old) }
     requires size { length out.old ≡ 2 ^ (length evals.values.now / length scalars.now) }
     ensures { out.new ≡ with_batch EF.ring INITIALIZED out.old (map E.image evals.entry.values.now) scalars.now }
 {

@@ -134,7 +134,8 @@ fn replay_line<W: Write>(
     ensures one { IfOk result (λ _. tally.new.compared + tally.new.unknown ≡ tally.old.compared + tally.old.unknown + 1) }
     ensures within { IfOk result (λ _. tally.new.differ ≤ tally.new.compared) }
     ensures same { OnOk result (disagreeing tally.new ≡ disagreeing tally.old → Appends (W.contents out.old) (W.contents out.new) []) }
-    ensures differs { OnOk result (tally.new.differ ≢ tally.old.differ → TellsDiffering number line.now (W.contents out.old) (W.contents out.new)) }
+    ensures differs { OnOk result (tally.new.differ ≢ tally.old.differ →
+        TellsDiffering number line.now (W.contents out.old) (W.contents out.new)) }
     ensures unknown { OnOk result (tally.new.unknown ≢ tally.old.unknown → TellsUnknown number (W.contents out.old) (W.contents out.new)) }
     ensures grows { OnOk result (Grows (W.contents out.old) (W.contents out.new)) }
     ensures stop { IfErr result (λ stop. stop ≢ Stop.Read) }

@@ -101,7 +101,8 @@ impl<const W: usize, const D: usize> Element for ProductAlgebra<BabyBear<W>, D> 
 
 /// The residues between colons, and `None` exactly where they are not so many or one is none.
 fn read_coefficients<const W: usize, const D: usize>(word: &str) -> Option<[BabyBear<W>; D]>
-    ensures { MatchOption result ((xs : List (BabyBear W)) → length xs ≡ D → AreCoefficients word.now xs → ⊥) (λ xs. AreCoefficients word.now xs) }
+    ensures { MatchOption result ((xs : List (BabyBear W)) → length xs ≡ D →
+        AreCoefficients word.now xs → ⊥) (λ xs. AreCoefficients word.now xs) }
 {
     let mut coefficients = [BabyBear::ZERO; D];
     let mut count = 0;

@@ -94,7 +94,8 @@ impl<'a> Words<'a> {
 
     /// As [`Words::choice`], of `true` and `false`.
     pub fn flag(&mut self) -> Result<bool, Reason>
-        ensures { Takes (words_left self.old) (words_left self.new) result (λ word taken. IsChoice (codes "true") (codes "false") word taken) }
+        ensures { Takes (words_left self.old) (words_left self.new) result
+            (λ word taken. IsChoice (codes "true") (codes "false") word taken) }
     {
         self.choice("true", "false")
     }

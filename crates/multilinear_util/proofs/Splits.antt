@@ -14,7 +14,7 @@ use Rattle.mlu_eq.specs.Half.{Half}
 use Rattle.mlu_eq.specs.Split.{contents}
 use Rattle.mlu_eq.proofs.Contents.{length-contents, contents-weights}
 use Rattle.mlu_point.proofs.Equality.{length-weights}
-use Rattle.mlu_point.proofs.Tables.{map-one}
+use Rattle.mlu_ring.proofs.Rings.{map-one}
 use Rattle.multilinear_util.specs.Split.{Split, split_entries}
 use Rattle.multilinear_util.proofs.Lengths.{exponents, quotient_of_powers}
 use Rattle.multilinear_util.proofs.Scaled.{pair-weights}

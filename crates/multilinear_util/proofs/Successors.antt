@@ -5,7 +5,7 @@ use Rattle.std.proofs.lemmas.List.{get_or-map, get_or_past, get_or_default, drop
 use Rattle.mlu_ring.specs.Ring.{Ring, RingLaws}
 use Rattle.mlu_ring.specs.Tables.{pair, weights}
 use Rattle.mlu_ring.specs.Successor.{shifted}
-use Rattle.mlu_ring.proofs.Rings.{product_zero}
+use Rattle.mlu_ring.proofs.Rings.{product_zero, map-one}
 use Rattle.mlu_ring.proofs.Shifted.{length-moved_up, pushed-is, pair-pushed}
 use Rattle.mlu_eq.specs.Split.{contents}
 use Rattle.mlu_eq.proofs.Contents.{length-contents, get_or-contents_row}
@@ -13,7 +13,6 @@ use Rattle.mlu_eq.proofs.Lengths.{last_place}
 use Rattle.mlu_point.specs.declared.point.rule.Successor.{Successor}
 use Rattle.mlu_point.specs.Rules.{successor_by, next_by, after_last}
 use Rattle.mlu_point.proofs.Rules.{rule-step}
-use Rattle.mlu_point.proofs.Tables.{map-one}
 
 no-rows : (n : ℕ) → n * 0 ≡ 0
 no-rows n = omega arith

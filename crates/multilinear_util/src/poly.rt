@@ -169,7 +169,8 @@ impl<F: PrimeCharacteristicRing> Poly<F> {
     pub fn pad_zeros(&mut self, variables: usize) -> Result<(), AllocError>
         requires fits { 2 ^ variables < 2 ^ 64 }
         requires grows { length self.old ≤ 2 ^ variables }
-        ensures padded { self.new ≡ (if is_ok result then self.old ++ replicate (2 ^ variables - length self.old) F.ring.zero else self.old) }
+        ensures padded { self.new ≡ (if is_ok result
+            then self.old ++ replicate (2 ^ variables - length self.old) F.ring.zero else self.old) }
         ensures same { length self.old ≡ 2 ^ variables → IsOk result }
     {
         self.evals.resize(table_length(variables), F::ZERO)

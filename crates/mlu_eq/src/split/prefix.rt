@@ -108,7 +108,8 @@ pub(super) fn add_lane_rows<F: Field, EF: ExtensionField<F>>(
     rows: &[F],
 )
     requires { length rows.now ≡ length weights.now * (F.Packing.WIDTH * length out.old) }
-    ensures { out.new ≡ plus_rows EF.ring out.old (map (EF.ring.product factor) (logical EF.ExtensionPacking.ext_lanes weights.now)) (map EF.embed rows.now) }
+    ensures { out.new ≡ plus_rows EF.ring out.old
+        (map (EF.ring.product factor) (logical EF.ExtensionPacking.ext_lanes weights.now)) (map EF.embed rows.now) }
 {
     for i in 0..weights.len() {
         let scaled = weights[i].scale(factor);

@@ -100,7 +100,8 @@ fn add_leading_rows<F: Field, EF: ExtensionField<F>>(
 )
     requires some { 0 < length out.old }
     requires size { length rows.now + length out.old ≡ length eq1.now.weights * length out.old }
-    ensures { out.new ≡ plus_rows EF.ring out.old (map (EF.ring.product factor) (take (length eq1.now.weights - 1) eq1.now.weights)) (map EF.embed rows.now) }
+    ensures { out.new ≡ plus_rows EF.ring out.old
+        (map (EF.ring.product factor) (take (length eq1.now.weights - 1) eq1.now.weights)) (map EF.embed rows.now) }
 {
     match eq1.weights() {
         Weights::Scalar(weights) => {
@@ -149,7 +150,10 @@ fn add_leading_lane_rows<F: Field, EF: ExtensionField<F>>(
     requires some { 0 < length weights.now }
     requires places { 0 < length out.old }
     requires size { length rows.now + length out.old ≡ length weights.now * F.Packing.WIDTH * length out.old }
-    ensures { out.new ≡ plus_rows EF.ring out.old (map (EF.ring.product factor) (take (length weights.now * F.Packing.WIDTH - 1) (logical EF.ExtensionPacking.ext_lanes weights.now))) (map EF.embed rows.now) }
+    ensures { out.new ≡ plus_rows EF.ring out.old
+        (map (EF.ring.product factor)
+        (take (length weights.now * F.Packing.WIDTH - 1) (logical EF.ExtensionPacking.ext_lanes weights.now)))
+        (map EF.embed rows.now) }
 {
     let groups = weights.len() - 1;
     let (whole, rest) = rows.split_at(groups * F::Packing::WIDTH * out.len());

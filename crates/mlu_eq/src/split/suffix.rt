@@ -62,7 +62,8 @@ fn compress_by_joined<F: Field, EF: ExtensionField<F>>(
     requires few { length eq0.now * length weights.now ≤ MOST_JOINED }
     requires small { type_size EF.ExtensionPacking.row < SMALL_BYTES }
     requires size { length entries.now ≡ length out.old * (length eq0.now * (length weights.now * F.Packing.WIDTH)) }
-    ensures { out.new ≡ back EF.ring (contents EF.ring eq0.now (logical EF.ExtensionPacking.ext_lanes weights.now)) (map EF.embed entries.now) }
+    ensures { out.new ≡ back EF.ring (contents EF.ring eq0.now (logical EF.ExtensionPacking.ext_lanes weights.now))
+        (map EF.embed entries.now) }
 {
     let mut places = [EF::ExtensionPacking::ZERO; MOST_JOINED];
     let joined = &mut places[..eq0.len() * weights.len()];

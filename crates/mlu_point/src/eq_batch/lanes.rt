@@ -34,7 +34,8 @@ pub(super) fn add_chunk<
     requires width { evals.width ≡ length scalars.now }
     requires variables { F.Packing.LOG_WIDTH ≤ length evals.values.now / length scalars.now }
     requires lanes { length lanes.old ≡ F.Packing.WIDTH }
-    requires packed { length packed.old ≡ (length evals.values.now / length scalars.now - F.Packing.LOG_WIDTH) * length scalars.now + length scalars.now }
+    requires packed { length packed.old
+        ≡ (length evals.values.now / length scalars.now - F.Packing.LOG_WIDTH) * length scalars.now + length scalars.now }
     requires size { length out.old ≡ 2 ^ (length evals.values.now / length scalars.now) }
     ensures { out.new ≡ with_batch EF.ring INITIALIZED out.old (map E.image evals.entry.values.now) scalars.now }
 {
@@ -76,7 +77,8 @@ fn fill_column<C: Additive, S: PrimeCharacteristicRing, E: EqualityEvaluator<C, 
 )
     requires column { i < evals.width }
     requires size { length out.old ≡ 2 ^ (length evals.values.now / evals.width) }
-    ensures { out.new ≡ map (λ w. S.ring.product scale w) (weights S.ring (column S.ring (map E.image evals.entry.values.now) evals.entry.width i)) }
+    ensures { out.new ≡ map (λ w. S.ring.product scale w)
+        (weights S.ring (column S.ring (map E.image evals.entry.values.now) evals.entry.width i)) }
 {
     if evals.height() == 0 {
         out[0] = scale;

@@ -75,7 +75,8 @@ impl<F: Field> PolyView<'_, F> {
     ) -> Result<Poly<EF>, AllocError>
         requires { 2 ^ length point.now ≤ length (entries self.now) }
         ensures value { IfOk result (λ folded. folded ≡ suffix_compressed EF.ring scale point.now (map EF.embed (entries self.now))) }
-        ensures joined { IfOk result (IsJoinedBefore EF.ring scale point.now (length (entries self.now)) (map EF.embed (entries self.now))) }
+        ensures joined { IfOk result (IsJoinedBefore EF.ring scale point.now (length (entries self.now))
+            (map EF.embed (entries self.now))) }
     {
         let split = SplitEq::<F, EF>::new_packed(alloc, point, scale)?;
         let folded = split.compress_suffix(alloc, *self)?;

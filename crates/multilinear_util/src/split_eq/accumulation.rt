@@ -37,7 +37,9 @@ impl<F: Field, EF: ExtensionField<F>> SplitEq<F, EF> {
         scale: Option<EF>,
     ) -> Result<(), AllocError>
         requires { length out.old * F.Packing.WIDTH ≡ length (split_entries EF.ring self.now) }
-        ensures ok { IfOk result (λ _. logical EF.ExtensionPacking.ext_lanes out.new ≡ plus_scaled EF.ring (logical EF.ExtensionPacking.ext_lanes out.old) (scale_or_one EF.ring scale) (split_entries EF.ring self.now)) }
+        ensures ok { IfOk result (λ _. logical EF.ExtensionPacking.ext_lanes out.new
+            ≡ plus_scaled EF.ring (logical EF.ExtensionPacking.ext_lanes out.old) (scale_or_one EF.ring scale)
+            (split_entries EF.ring self.now)) }
         ensures err { OnErr result (out.new ≡ out.old) }
         ensures packed { IsTrue self.now.eq1.packed → F.Packing.WIDTH * F.Packing.WIDTH ≤ length out.old * F.Packing.WIDTH → IsOk result }
     {
@@ -60,7 +62,9 @@ impl<F: Field, EF: ExtensionField<F>> SplitEq<F, EF> {
         scale: Option<EF>,
     ) -> Result<(), AllocError>
         requires { length out.old * F.Packing.WIDTH ≡ length (split_entries EF.ring self.now) }
-        ensures ok { IfOk result (λ _. logical EF.ExtensionPacking.ext_lanes out.new ≡ plus_scaled EF.ring (logical EF.ExtensionPacking.ext_lanes out.old) (scale_or_one EF.ring scale) (split_entries EF.ring self.now)) }
+        ensures ok { IfOk result (λ _. logical EF.ExtensionPacking.ext_lanes out.new
+            ≡ plus_scaled EF.ring (logical EF.ExtensionPacking.ext_lanes out.old) (scale_or_one EF.ring scale)
+            (split_entries EF.ring self.now)) }
         ensures err { OnErr result (out.new ≡ out.old) }
     {
         let Some(entries) = out.len().checked_mul(<F::Packing as PackedValue>::WIDTH) else {

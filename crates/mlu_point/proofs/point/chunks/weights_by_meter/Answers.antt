@@ -3,7 +3,7 @@ use Rattle.std.proofs.lemmas.Grind.{common_steps}
 use Rattle.mlu_point.specs.Orders.{weights_by}
 use Rattle.mlu_point.proofs.Expansion.{exponent-fits}
 use Rattle.mlu_point.proofs.Outputs.{written-back}
-use Rattle.mlu_point.proofs.Tables.{map-one}
+use Rattle.mlu_ring.proofs.Rings.{map-one}
 use Rattle.mlu_point.proofs.point.chunks.weights_by_meter.Goals as goal
 
 pub overflow_shl-coords : goal.overflow_shl-coords

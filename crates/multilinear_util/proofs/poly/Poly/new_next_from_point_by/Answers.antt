@@ -3,7 +3,7 @@ use Rattle.std.proofs.Math.Seq.{take-append_seam}
 use Rattle.std.proofs.lemmas.Grind.{common_steps}
 use Rattle.mlu_ring.specs.Tables.{weights}
 use Rattle.mlu_point.specs.Rules.{next_by}
-use Rattle.mlu_point.proofs.Tables.{map-one}
+use Rattle.mlu_ring.proofs.Rings.{map-one}
 use Rattle.multilinear_util.proofs.poly.Poly.new_next_from_point_by.Goals as goal
 
 pub returns : goal.returns

@@ -4,7 +4,7 @@ use Rattle.std.proofs.lemmas.Grind.{common_steps}
 use Rattle.std.proofs.lemmas.List.{length-map}
 use Rattle.std.specs.Simd.Lanes.{zip2}
 use Rattle.mlu_eq.proofs.Zipped.{zip_zeros}
-use Rattle.mlu_point.proofs.Tables.{map-one}
+use Rattle.mlu_ring.proofs.Rings.{map-one}
 use Rattle.multilinear_util.specs.Split.{split_entries}
 use Rattle.multilinear_util.proofs.split_eq.SplitEq.materialize.Goals as goal
 

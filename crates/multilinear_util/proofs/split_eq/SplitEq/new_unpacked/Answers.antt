@@ -2,7 +2,7 @@ use Rattle.std.proofs.Common.{◌≡◌, ◌∙◌, ◌-◌, ◌/◌, ◌++◌, 
 use Rattle.std.proofs.Math.Pow.{pow_mono}
 use Rattle.std.proofs.lemmas.List.{take-append-drop}
 use Rattle.mlu_ring.specs.Tables.{weights}
-use Rattle.mlu_point.proofs.Tables.{map-one}
+use Rattle.mlu_ring.proofs.Rings.{map-one}
 use Rattle.multilinear_util.proofs.Splits.{split-made, split-size}
 use Rattle.multilinear_util.proofs.split_eq.SplitEq.new_unpacked.Goals as goal
 
