@@ -83,7 +83,7 @@ module _ {R : Type 0} (ring : Ring R) (laws : RingLaws ring) where
   both a b x y p q = ap (λ t. t ⊗ x) p ∙ ap (λ t. b ⊗ t) q
 
   module _ (w e : List R) (h : ℕ) (size_w : length w ≡ h + h) (size_e : length e ≡ h + h) where
-    constant-sum : pair ring (lower w) (lower e) ≡ sum_below ring h (low_term ring w e)
+    pub constant-sum : pair ring (lower w) (lower e) ≡ sum_below ring h (low_term ring w e)
     constant-sum =
         pair-terms (lower w) (lower e) h (low_term ring w e) (length-lower w h size_w)
         (λ x q. both _ _ _ _ (lower-entry w h x (halved (length w) h size_w) q) (lower-entry e h x (halved (length e) h size_e) q))
@@ -100,7 +100,7 @@ module _ {R : Type 0} (ring : Ring R) (laws : RingLaws ring) where
         (λ x q. both _ _ _ _ (step-entry w h x size_w q) (lower-entry e h x (halved (length e) h size_e) q)))
         ∙ sym (sum_below-sum ring laws h first second)
 
-    quadratic-sum : pair ring (step ring w) (step ring e) ≡ sum_below ring h (step_term ring h w e)
+    pub quadratic-sum : pair ring (step ring w) (step ring e) ≡ sum_below ring h (step_term ring h w e)
     quadratic-sum =
         pair-terms (step ring w) (step ring e) h (step_term ring h w e) (length-step w h size_w)
         (λ x q. both _ _ _ _ (step-entry w h x size_w q) (step-entry e h x size_e q))
@@ -139,6 +139,19 @@ module _ {R : Type 0} (ring : Ring R) (laws : RingLaws ring) where
   -- one more place
   pub sum-more : (n : ℕ) (f : ℕ → R) (old term new : R) → old ≡ sum_below ring n f → term ≡ f n → new ≡ old ⊕ term → new ≡ sum_below ring (n + 1) f
   sum-more n f old term new so_far at is = is ∙ ap (λ t. t ⊕ term) so_far ∙ ap (λ t. sum_below ring n f ⊕ t) at ∙ sym (sum_below-more ring laws n f)
+
+  -- one more place of the sum at 0, from the entries read there
+  pub low-more : (w e : List R) (n : ℕ) (a x old term new : R) → a ≡ get_or w n 𝟘 → x ≡ get_or e n 𝟘 → term ≡ a ⊗ x
+      → old ≡ sum_below ring n (low_term ring w e) → new ≡ old ⊕ term → new ≡ sum_below ring (n + 1) (low_term ring w e)
+  low-more w e n a x old term new at_a at_x product so_far is = sum-more n (low_term ring w e) old term new so_far (product ∙ both _ _ _ _ at_a at_x) is
+
+  -- and of that of the products of steps
+  pub step-more : (h : ℕ) (w e : List R) (n : ℕ) (a b x y s t old term new : R) → a ≡ get_or w n 𝟘 → b ≡ get_or w (h + n) 𝟘 → x ≡ get_or e n 𝟘 → y ≡ get_or e (h + n) 𝟘
+      → s ≡ b ⊖ a → t ≡ y ⊖ x → term ≡ s ⊗ t → old ≡ sum_below ring n (step_term ring h w e) → new ≡ old ⊕ term → new ≡ sum_below ring (n + 1) (step_term ring h w e)
+  step-more h w e n a b x y s t old term new at_a at_b at_x at_y at_s at_t product so_far is =
+      let weight_step = at_s ∙ ap (λ v. v ⊖ a) at_b ∙ ap (λ v. get_or w (h + n) 𝟘 ⊖ v) at_a in
+      let step = at_t ∙ ap (λ v. v ⊖ x) at_y ∙ ap (λ v. get_or e (h + n) 𝟘 ⊖ v) at_x in
+      sum-more n (step_term ring h w e) old term new so_far (product ∙ both _ _ _ _ weight_step step) is
 
   -- the round from the three sums that one pass takes
   pub round-sums : (w e : List R) (h : ℕ) (low high quadratic linear : R) → length w ≡ h + h → length e ≡ h + h

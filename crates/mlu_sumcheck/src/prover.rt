@@ -2,7 +2,7 @@
 ghost use Rattle.std.specs.Prelude.{◌≡◌, ◌+◌, ◌/◌, ◌^◌, ◌<◌, ◌∷◌, [], length, slice_index_or, suc, IfOk};
 ghost use Rattle.mlu_ring.specs.Tables.{front, line, pair, value};
 ghost use Rattle.multilinear_util.specs.Split.{split_entries};
-ghost use Rattle.mlu_sumcheck.specs.Rounds.{round, rounds_of, AddsUpTo, Fit};
+ghost use Rattle.mlu_sumcheck.specs.Rounds.{lower, step, round, rounds_of, AddsUpTo, Fit};
 
 use crate::verifier::value_at;
 use mlu_ring::{Additive, ExtensionField, Field, PrimeCharacteristicRing, SelfAlgebra};
@@ -34,7 +34,8 @@ pub fn prove_round<EF: PrimeCharacteristicRing>(poly: &Poly<EF>, weights: &Poly<
 }
 
 /// The round that adds up to the claim: that of [`prove_round`] where the claim is true, the sum of the
-/// products of both tables. It takes two products a pair of entries, and [`prove_round`] three.
+/// products of both tables. Only the coefficient of X depends on the claim. It takes two products a pair
+/// of entries, and [`prove_round`] three.
 ///
 /// Asks for equal sizes and at least one variable.
 #[inline]
@@ -45,6 +46,9 @@ pub fn prove_round_of_claim<EF: PrimeCharacteristicRing>(
 ) -> [EF; 3]
     requires sizes { length poly.now ≡ length weights.now }
     requires variable { 1 < length poly.now }
+    ensures constant { slice_index_or result 0 EF.ring.zero ≡ pair EF.ring (lower weights.now) (lower poly.now) }
+    ensures quadratic { slice_index_or result 2 EF.ring.zero
+        ≡ pair EF.ring (step EF.ring weights.now) (step EF.ring poly.now) }
     ensures adds_up { AddsUpTo EF.ring claim result }
     ensures round { claim ≡ pair EF.ring weights.now poly.now → result ≡ round EF.ring weights.now poly.now }
 {
@@ -80,6 +84,8 @@ fn coefficients_of_claim<R: PrimeCharacteristicRing>(
 ) -> (R, R, R)
     requires sizes { length poly.now ≡ length weights.now }
     requires halves { length poly.now ≡ length poly.now / 2 + length poly.now / 2 }
+    ensures constant { result.0 ≡ pair R.ring (lower weights.now) (lower poly.now) }
+    ensures quadratic { result.2 ≡ pair R.ring (step R.ring weights.now) (step R.ring poly.now) }
     ensures adds_up { AddsUpTo R.ring claim (result.0 ∷ result.1 ∷ result.2 ∷ []) }
     ensures round { claim ≡ pair R.ring weights.now poly.now
         → result.0 ∷ result.1 ∷ result.2 ∷ [] ≡ round R.ring weights.now poly.now }

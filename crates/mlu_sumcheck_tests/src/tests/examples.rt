@@ -2,7 +2,7 @@
 
 use mlu_lanes::BabyBear;
 use mlu_ring::Additive;
-use mlu_sumcheck::{bind, prove_round, verify_round};
+use mlu_sumcheck::{bind, prove_round, prove_round_of_claim, verify_round};
 use multilinear_util::poly::Poly;
 use std::test::Fail;
 
@@ -20,7 +20,8 @@ fn one_proof(rt: HostRuntime) -> Result<(), Fail> {
         // the prover
         assert_eq!(rt; poly.num_evals(), weights.num_evals());
         assert!(rt; poly.num_evals() > 1);
-        let round = prove_round(&poly, &weights);
+        let round = prove_round_of_claim(&poly, &weights, claim);
+        assert!(rt; round == prove_round(&poly, &weights));
         bind(&mut poly, &mut weights, r);
         // the verifier
         claim = verify_round(claim, round, r).expect(&rt, "the round adds up to the claim");

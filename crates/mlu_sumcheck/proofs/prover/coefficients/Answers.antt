@@ -1,7 +1,7 @@
 use Rattle.std.proofs.Common.{◌≡◌, ◌+◌, ◌/◌, ◌<◌, length, get_or, ap, sym, ◌∙◌, arith}
 use Rattle.std.proofs.lemmas.List.{get_or_default}
 use Rattle.mlu_ring.proofs.SumsBelow.{sum_below-zero}
-use Rattle.mlu_sumcheck.proofs.Rounds.{low_term, high_term, step_term, sum-more, round-sums}
+use Rattle.mlu_sumcheck.proofs.Rounds.{high_term, sum-more, low-more, step-more, round-sums}
 use Rattle.mlu_sumcheck.proofs.prover.coefficients.Goals as goal
 
 pub loop-i-init : goal.loop-i-init
@@ -28,15 +28,15 @@ loop-i-preserved g c =
     let high = c.index-poly-half.is ∙ get_or_default e (h + i) c.index-poly-half.result ring.zero (omega (arith, within)) in
     let low_weight = c.index-weights-i.is ∙ get_or_default w i c.index-weights-i.result ring.zero (omega (arith, within, c.requires.sizes)) in
     let high_weight = c.index-weights-half.is ∙ get_or_default w (h + i) c.index-weights-half.result ring.zero (omega (arith, within, c.requires.sizes)) in
-    let first = met.PrimeCharacteristicRing.multiplies _ _ _ c.mul.ensures ∙ ap (λ t. ring.product t c.index-poly-i.result) low_weight ∙ ap (ring.product (get_or w i ring.zero)) low in
-    let second = met.PrimeCharacteristicRing.multiplies _ _ _ c.mul-in-loop-i.ensures ∙ ap (λ t. ring.product t c.index-poly-half.result) high_weight ∙ ap (ring.product (get_or w (h + i) ring.zero)) high in
-    let weight_step = met.Additive.subtracts _ _ _ c.sub.ensures ∙ ap (λ t. ring.minus t c.index-weights-i.result) high_weight ∙ ap (ring.minus (get_or w (h + i) ring.zero)) low_weight in
-    let step = met.Additive.subtracts _ _ _ c.sub-in-loop-i.ensures ∙ ap (λ t. ring.minus t c.index-poly-i.result) high ∙ ap (ring.minus (get_or e (h + i) ring.zero)) low in
-    let third = met.PrimeCharacteristicRing.multiplies _ _ _ c.mul-in-loop-i-2.ensures ∙ ap (λ t. ring.product t c.sub-in-loop-i.result) weight_step ∙ ap (ring.product (ring.minus (get_or w (h + i) ring.zero) (get_or w i ring.zero))) step in
     record {
-      low = sum-more ring laws i (low_term ring w e) c.loop-i.at_zero c.mul.result c.add-at_zero.result c.loop-i.invariant.low first (met.Additive.adds _ _ _ c.add-at_zero.ensures);
-      high = sum-more ring laws i (high_term ring h w e) c.loop-i.at_one c.mul-in-loop-i.result c.add-at_one.result c.loop-i.invariant.high second (met.Additive.adds _ _ _ c.add-at_one.ensures);
-      steps = sum-more ring laws i (step_term ring h w e) c.loop-i.quadratic c.mul-in-loop-i-2.result c.add-quadratic.result c.loop-i.invariant.steps third (met.Additive.adds _ _ _ c.add-quadratic.ensures);
+      low = low-more ring laws w e i _ _ c.loop-i.at_zero c.mul.result c.add-at_zero.result low_weight low (met.PrimeCharacteristicRing.multiplies _ _ _ c.mul.ensures)
+          c.loop-i.invariant.low (met.Additive.adds _ _ _ c.add-at_zero.ensures);
+      high = sum-more ring laws i (high_term ring h w e) c.loop-i.at_one c.mul-in-loop-i.result c.add-at_one.result c.loop-i.invariant.high
+          (met.PrimeCharacteristicRing.multiplies _ _ _ c.mul-in-loop-i.ensures ∙ ap (λ t. ring.product t c.index-poly-half.result) high_weight ∙ ap (ring.product (get_or w (h + i) ring.zero)) high)
+          (met.Additive.adds _ _ _ c.add-at_one.ensures);
+      steps = step-more ring laws h w e i _ _ _ _ c.sub.result c.sub-in-loop-i.result c.loop-i.quadratic c.mul-in-loop-i-2.result c.add-quadratic.result low_weight high_weight low high
+          (met.Additive.subtracts _ _ _ c.sub.ensures) (met.Additive.subtracts _ _ _ c.sub-in-loop-i.ensures) (met.PrimeCharacteristicRing.multiplies _ _ _ c.mul-in-loop-i-2.ensures)
+          c.loop-i.invariant.steps (met.Additive.adds _ _ _ c.add-quadratic.ensures);
     }
 
 pub returns : goal.returns
