@@ -1,7 +1,7 @@
 //! The definitions that the crate of test support does not have, each index by itself.
 ghost use Rattle.std.specs.Prelude.{◌≡◌, ◌^◌, IfOk, vec_len, length};
 
-use mlu_ring::PrimeCharacteristicRing;
+use mlu_ring::{Additive, Algebra, PrimeCharacteristicRing};
 use mlu_test_support::plain::{next, weight};
 use multilinear_util::point::Successor;
 use std::alloc::{AllocError, Global};
@@ -66,6 +66,20 @@ pub fn two_and_steps<R: PrimeCharacteristicRing>(
     Ok(sums)
 }
 
+/// The values with each entry of the table, times the scale, added to its place.
+pub fn plus_scaled<R: PrimeCharacteristicRing>(
+    alloc: Global,
+    before: &[R],
+    scale: R,
+    entries: &[R],
+) -> Result<Vec<R>, AllocError> {
+    before
+        .iter()
+        .zip(entries)
+        .map(|(old, entry)| *old + scale * *entry)
+        .collect(alloc)
+}
+
 /// The coordinates in column `i` of rows of `points` each.
 fn column<R: Copy>(
     alloc: Global,
@@ -102,4 +116,67 @@ pub fn add_batch<R: PrimeCharacteristicRing>(
         add_weights(out, &point, *scalar);
     }
     Ok(())
+}
+
+/// The sum over `i` of weight `i` times `entries[first + i * step]`.
+fn strided<F: Additive, EF: Algebra<F>>(
+    weights: &[EF],
+    entries: &[F],
+    first: usize,
+    step: usize,
+) -> EF {
+    let mut sum = EF::ZERO;
+    for (i, weight) in weights.iter().enumerate() {
+        let place = i.saturating_mul(step).saturating_add(first);
+        if let Some(entry) = entries.get(place) {
+            sum = sum + *weight * EF::from_base(*entry);
+        }
+    }
+    sum
+}
+
+/// The sum over `j` and `i` of factor `j` times weight `i` times `entries[j * weights.len() + i]`.
+pub fn double_sum<F: Additive, EF: Algebra<F>>(
+    factors: &[EF],
+    weights: &[EF],
+    entries: &[F],
+) -> EF {
+    let mut sum = EF::ZERO;
+    for (j, factor) in factors.iter().enumerate() {
+        let first = j.saturating_mul(weights.len());
+        sum = sum + *factor * strided(weights, entries, first, 1);
+    }
+    sum
+}
+
+/// The values, and added to value `z` the sum over `i` of `scale` times weight `i` times
+/// `entries[i * values.len() + z]`.
+pub fn plus_rows<F: Additive, EF: Algebra<F>>(
+    alloc: Global,
+    values: &[EF],
+    (scale, weights): (EF, &[EF]),
+    entries: &[F],
+) -> Result<Vec<EF>, AllocError> {
+    let mut sums = Vec::new(alloc);
+    for (z, value) in values.iter().enumerate() {
+        sums.push(*value + scale * strided(weights, entries, z, values.len()))?;
+    }
+    Ok(sums)
+}
+
+/// For each lane `k` of so many, the sum over `i` of `left[i * lanes + k]` times `right[i * lanes + k]`.
+pub fn lane_dots<R: PrimeCharacteristicRing>(
+    alloc: Global,
+    left: &[R],
+    right: &[R],
+    lanes: usize,
+) -> Result<Vec<R>, AllocError> {
+    let mut sums = R::zero_vec(alloc, lanes)?;
+    for (place, (l, r)) in left.iter().zip(right).enumerate() {
+        let lane = place.checked_rem(lanes).unwrap_or(0);
+        if let Some(sum) = sums.get_mut(lane) {
+            *sum = *sum + *l * *r;
+        }
+    }
+    Ok(sums)
 }

@@ -2,7 +2,7 @@
 ghost use Rattle.std.specs.Prelude.{◌≡◌, ◌<◌, ◌≤◌, length};
 
 use crate::report::Report;
-use mlu_ring::{ExtensionField, Field, PackedValue};
+use mlu_ring::{Additive, Algebra, ExtensionField, Field, PackedValue};
 use mlu_test_support::lists::pair;
 use mlu_test_support::plain;
 use multilinear_util::poly::Poly;
@@ -50,54 +50,54 @@ fn one_by_one<F: Field, EF: ExtensionField<F>>(
     }
 }
 
-/// Compares folds in place at `r`, where the polynomial has a variable.
-pub fn in_place<F: Field, EF: ExtensionField<F>>(
+/// Compares folds in place at the image of `r`, where the polynomial has a variable.
+pub fn in_place<R: Additive, A: Algebra<R>>(
     alloc: Global,
     report: &mut Report,
-    ext: &Poly<EF>,
-    r: F,
+    poly: &Poly<A>,
+    r: R,
 ) -> Result<(), AllocError> {
-    if ext.num_evals() < 2 {
+    if poly.num_evals() < 2 {
         return Ok(());
     }
-    let line = pair(alloc, EF::ONE - EF::from_base(r), EF::from_base(r))?;
-    let first = plain::compressed_prefix(alloc, &line, ext.as_slice())?;
-    let mut left = ext.try_clone(alloc)?;
+    let line = pair(alloc, A::ONE - A::from_base(r), A::from_base(r))?;
+    let first = plain::compressed_prefix(alloc, &line, poly.as_slice())?;
+    let mut left = poly.try_clone(alloc)?;
     left.fix_prefix_var_mut(r);
     report.values("Poly::fix_prefix_var_mut", left.as_slice(), &first);
-    let last = plain::compressed_suffix(alloc, &line, ext.as_slice())?;
-    let mut left = ext.try_clone(alloc)?;
+    let last = plain::compressed_suffix(alloc, &line, poly.as_slice())?;
+    let mut left = poly.try_clone(alloc)?;
     left.fix_suffix_var_mut(r);
     report.values("Poly::fix_suffix_var_mut", left.as_slice(), &last);
-    let mut left = ext.try_clone(alloc)?;
+    let mut left = poly.try_clone(alloc)?;
     left.fix_suffix_var_mut_split(alloc, r)?;
     report.values("Poly::fix_suffix_var_mut_split", left.as_slice(), &last);
     Ok(())
 }
 
-/// Compares the folds in place of coefficients at `r`, and the sum of both halves, where the
-/// polynomial has a variable.
-pub fn of_coefficients<F: Field, EF: ExtensionField<F>>(
+/// Compares the folds in place of coefficients at the image of `r`, and the sum of both halves, where
+/// the polynomial has a variable.
+pub fn of_coefficients<R: Additive, A: Algebra<R>>(
     alloc: Global,
     report: &mut Report,
-    ext: &Poly<EF>,
-    r: F,
+    poly: &Poly<A>,
+    r: R,
 ) -> Result<(), AllocError> {
-    if ext.num_evals() < 2 {
+    if poly.num_evals() < 2 {
         return Ok(());
     }
-    let powers = pair(alloc, EF::ONE, EF::from_base(r))?;
-    let folded = plain::compressed_prefix(alloc, &powers, ext.as_slice())?;
-    let mut left = ext.try_clone(alloc)?;
+    let powers = pair(alloc, A::ONE, A::from_base(r))?;
+    let folded = plain::compressed_prefix(alloc, &powers, poly.as_slice())?;
+    let mut left = poly.try_clone(alloc)?;
     left.fix_prefix_var_mut_monomial(r);
     report.values(
         "Poly::fix_prefix_var_mut_monomial",
         left.as_slice(),
         &folded,
     );
-    let ones = pair(alloc, EF::ONE, EF::ONE)?;
-    let sums = plain::compressed_prefix(alloc, &ones, ext.as_slice())?;
-    let mut left = ext.try_clone(alloc)?;
+    let ones = pair(alloc, A::ONE, A::ONE)?;
+    let sums = plain::compressed_prefix(alloc, &ones, poly.as_slice())?;
+    let mut left = poly.try_clone(alloc)?;
     left.sum_prefix_var_mut();
     report.values("Poly::sum_prefix_var_mut", left.as_slice(), &sums);
     Ok(())

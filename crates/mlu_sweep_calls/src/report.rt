@@ -5,19 +5,72 @@ use std::fmt;
 
 /// What the values at hand are made of.
 #[derive(Clone, Copy)]
-pub struct Shape {
-    /// How many variables the polynomial has.
-    pub variables: usize,
-    /// How many coordinates the point has.
-    pub coordinates: usize,
-    /// How the split table was made, or nothing.
-    pub split: &'static str,
+pub enum Shape {
+    /// A polynomial of so many variables, and a point of so many coordinates.
+    Polynomial {
+        variables: usize,
+        coordinates: usize,
+    },
+    /// So many entries.
+    Slice {
+        entries: usize,
+    },
+    /// So many packed weights, for each of so many rows of entries.
+    Dot {
+        weights: usize,
+        rows: usize,
+    },
+    /// So many packed weights, one for each row added to so many packed places.
+    Prefix {
+        weights: usize,
+        places: usize,
+    },
+    /// So many rows of so many packed values.
+    Basis {
+        rows: usize,
+        values: usize,
+    },
+    /// So many entries of a first half, so many variables of the second one, and so many places.
+    Split {
+        rows: usize,
+        variables: usize,
+        places: usize,
+    },
+}
+
+/// As a difference says it after "of".
+impl fmt::Display for Shape {
+    fn fmt<W: fmt::Write>(&self, f: &mut fmt::Formatter<W>) -> fmt::Result {
+        match *self {
+            Shape::Polynomial {
+                variables,
+                coordinates,
+            } => write!(f, "{variables} variables at {coordinates} coordinates"),
+            Shape::Slice { entries } => write!(f, "{entries} entries"),
+            Shape::Dot { weights, rows } => {
+                write!(f, "{weights} packed weights and {rows} rows")
+            }
+            Shape::Prefix { weights, places } => {
+                write!(f, "{weights} packed weights and {places} packed places")
+            }
+            Shape::Basis { rows, values } => write!(f, "{rows} rows of {values} packed values"),
+            Shape::Split {
+                rows,
+                variables,
+                places,
+            } => write!(
+                f,
+                "{rows} rows of {variables} variables and {places} places"
+            ),
+        }
+    }
 }
 
 /// The first answer that differs from the definition.
 #[derive(Clone, Copy)]
 pub struct Difference {
     call: &'static str,
+    form: &'static str,
     shape: Shape,
     place: usize,
 }
@@ -25,16 +78,8 @@ pub struct Difference {
 /// Names the call, what it was made on, and the first place where it differs.
 impl fmt::Display for Difference {
     fn fmt<W: fmt::Write>(&self, f: &mut fmt::Formatter<W>) -> fmt::Result {
-        let (call, place) = (self.call, self.place);
-        let Shape {
-            variables,
-            coordinates,
-            split,
-        } = self.shape;
-        write!(
-            f,
-            "{call}{split} of {variables} variables at {coordinates} coordinates differs at {place}"
-        )
+        let (call, form, shape, place) = (self.call, self.form, self.shape, self.place);
+        write!(f, "{call}{form} of {shape} differs at {place}")
     }
 }
 
@@ -42,6 +87,8 @@ impl fmt::Display for Difference {
 #[derive(Clone, Copy)]
 pub struct Report {
     pub shape: Shape,
+    /// How an operand was made where it is made in more than one way, or nothing.
+    pub form: &'static str,
     pub difference: Option<Difference>,
 }
 
@@ -49,11 +96,8 @@ impl Report {
     /// Nothing compared yet.
     pub fn new() -> Self {
         Report {
-            shape: Shape {
-                variables: 0,
-                coordinates: 0,
-                split: "",
-            },
+            shape: Shape::Slice { entries: 0 },
+            form: "",
             difference: None,
         }
     }
@@ -77,6 +121,7 @@ impl Report {
         if self.difference.is_none() {
             self.difference = Some(Difference {
                 call,
+                form: self.form,
                 shape: self.shape,
                 place,
             });

@@ -1,9 +1,9 @@
 //! Every shape up to a number of variables, over any field and extension of it.
 
 use crate::draws::{element, elements, polynomial};
-use crate::report::{Difference, Report};
-use crate::{batches, folds, points, polys, splits};
-use mlu_ring::{ExtensionField, Field, Sample};
+use crate::report::{Difference, Report, Shape};
+use crate::{batches, folds, halves, kernels, points, polys, slices, splits};
+use mlu_ring::{ExtensionField, Field, Sample, SelfAlgebra};
 use multilinear_util::point::Point;
 use multilinear_util::poly::Poly;
 use rand_core::SeedableRng;
@@ -13,19 +13,22 @@ use std::alloc::{AllocError, Global};
 /// Batches have one point, and a few.
 const POINTS: [usize; 2] = [1, 3];
 
-/// Compares each call on polynomials of each number of variables up to `most`, at points of as many
-/// coordinates and of fewer, and gives the first difference.
+/// Compares the kernels, the folds of slices and the sums with split tables by themselves, then each call
+/// on polynomials of each number of variables up to `most`, at points of as many coordinates and of
+/// fewer, and gives the first difference.
 ///
 /// # Errors
 /// Where memory is refused, and at 32 variables and more.
-pub fn sweep<F: Field + Sample, EF: ExtensionField<F> + Sample>(
+pub fn sweep<F: Field + Sample, EF: ExtensionField<F> + SelfAlgebra + Sample>(
     alloc: Global,
     most: usize,
 ) -> Result<Option<Difference>, AllocError> {
     let mut report = Report::new();
     let mut rng = Pcg32::seed_from_u64(1);
+    kernels::compare::<F, EF>(alloc, &mut report, &mut rng)?;
+    slices::fold::<F, EF>(alloc, &mut report, &mut rng)?;
+    halves::compare::<F, EF>(alloc, &mut report, &mut rng)?;
     for variables in 0..=most {
-        report.shape.variables = variables;
         polynomials::<F, EF>(alloc, &mut report, &mut rng, variables)?;
         tables::<F, EF>(alloc, &mut report, &mut rng, variables)?;
     }
@@ -33,7 +36,7 @@ pub fn sweep<F: Field + Sample, EF: ExtensionField<F> + Sample>(
 }
 
 /// Compares the calls on drawn polynomials of so many variables.
-fn polynomials<F: Field + Sample, EF: ExtensionField<F> + Sample>(
+fn polynomials<F: Field + Sample, EF: ExtensionField<F> + SelfAlgebra + Sample>(
     alloc: Global,
     report: &mut Report,
     rng: &mut Pcg32,
@@ -41,13 +44,35 @@ fn polynomials<F: Field + Sample, EF: ExtensionField<F> + Sample>(
 ) -> Result<(), AllocError> {
     let base: Poly<F> = polynomial(alloc, rng, variables)?;
     let ext: Poly<EF> = polynomial(alloc, rng, variables)?;
-    folds::into_the_extension(alloc, report, &base, element::<EF>(rng))?;
-    folds::in_place(alloc, report, &ext, element::<F>(rng))?;
-    folds::of_coefficients(alloc, report, &ext, element::<F>(rng))?;
+    report.shape = Shape::Polynomial {
+        variables,
+        coordinates: 1,
+    };
+    fold(alloc, report, rng, (&base, &ext))?;
     for coordinates in 0..=variables {
-        report.shape.coordinates = coordinates;
+        report.shape = Shape::Polynomial {
+            variables,
+            coordinates,
+        };
         at_a_point(alloc, report, rng, coordinates, (&base, &ext))?;
     }
+    Ok(())
+}
+
+/// Compares the folds of polynomials at drawn elements, those in place at elements of both fields.
+fn fold<F: Field + Sample, EF: ExtensionField<F> + SelfAlgebra + Sample>(
+    alloc: Global,
+    report: &mut Report,
+    rng: &mut Pcg32,
+    (base, ext): (&Poly<F>, &Poly<EF>),
+) -> Result<(), AllocError> {
+    folds::into_the_extension(alloc, report, base, element::<EF>(rng))?;
+    folds::in_place::<EF, EF>(alloc, report, ext, element(rng))?;
+    folds::of_coefficients::<EF, EF>(alloc, report, ext, element(rng))?;
+    report.form = " at the base";
+    folds::in_place::<F, EF>(alloc, report, ext, element(rng))?;
+    folds::of_coefficients::<F, EF>(alloc, report, ext, element(rng))?;
+    report.form = "";
     Ok(())
 }
 
@@ -80,6 +105,11 @@ fn tables<F: Field + Sample, EF: ExtensionField<F> + Sample>(
 ) -> Result<(), AllocError> {
     let point = Point::new(elements::<EF>(alloc, rng, variables)?);
     let scale = element(rng);
+    report.shape = Shape::Polynomial {
+        variables,
+        coordinates: variables,
+    };
+    slices::evaluate::<F, EF>(alloc, report, rng, variables)?;
     points::over_both::<F, EF>(alloc, report, rng, variables)?;
     points::steps::<EF>(alloc, report, rng, variables)?;
     polys::tabulate::<F, EF>(alloc, report, &point, scale)?;

@@ -2,7 +2,7 @@
 ghost use Rattle.std.specs.Prelude.{◌≡◌, ◌*◌, ◌≤◌, length};
 ghost use Rattle.multilinear_util.specs.Split.{split_entries};
 
-use crate::definitions::{next_by, table, two_and_steps};
+use crate::definitions::{next_by, plus_scaled, table, two_and_steps};
 use crate::report::Report;
 use mlu_ring::{ExtensionField, Field, PackedValue};
 use mlu_test_support::lists::filled;
@@ -26,15 +26,15 @@ pub fn compare<F: Field, EF: ExtensionField<F>>(
         return Err(AllocError);
     }
     let entries = table(alloc, point.as_slice(), scale)?;
-    report.shape.split = " (new_unpacked)";
+    report.form = " (new_unpacked)";
     let unpacked = SplitEq::<F, EF>::new_unpacked(alloc, point, scale)?;
     compare_entries(alloc, report, &unpacked, &entries, base, ext)?;
     step_in_second_half(alloc, report, &unpacked, point)?;
-    report.shape.split = " (new_packed)";
+    report.form = " (new_packed)";
     let packed = SplitEq::<F, EF>::new_packed(alloc, point, scale)?;
     compare_entries(alloc, report, &packed, &entries, base, ext)?;
     step_in_second_half(alloc, report, &packed, point)?;
-    report.shape.split = "";
+    report.form = "";
     Ok(())
 }
 
@@ -118,20 +118,6 @@ fn evaluate<F: Field, EF: ExtensionField<F>>(
     Ok(())
 }
 
-/// The values with each entry of the table, times the scale, added to its place.
-fn accumulated<EF: ExtensionField<F>, F: Field>(
-    alloc: Global,
-    before: &[EF],
-    entries: &[EF],
-    scale: EF,
-) -> Result<Vec<EF>, AllocError> {
-    before
-        .iter()
-        .zip(entries)
-        .map(|(old, entry)| *old + scale * *entry)
-        .collect(alloc)
-}
-
 /// Compares the table added to values, once and twice.
 fn accumulate<F: Field, EF: ExtensionField<F>>(
     alloc: Global,
@@ -144,11 +130,11 @@ fn accumulate<F: Field, EF: ExtensionField<F>>(
 {
     let mut once = ext.try_clone(alloc)?;
     split.accumulate_into(once.as_mut_slice(), None);
-    let sums = accumulated(alloc, ext.as_slice(), entries, EF::ONE)?;
+    let sums = plus_scaled(alloc, ext.as_slice(), EF::ONE, entries)?;
     report.values("SplitEq::accumulate_into", once.as_slice(), &sums);
     let mut twice = ext.try_clone(alloc)?;
     split.accumulate_into(twice.as_mut_slice(), Some(EF::TWO));
-    let sums = accumulated(alloc, ext.as_slice(), entries, EF::TWO)?;
+    let sums = plus_scaled(alloc, ext.as_slice(), EF::TWO, entries)?;
     report.values("SplitEq::accumulate_into twice", twice.as_slice(), &sums);
     Ok(())
 }
@@ -177,7 +163,7 @@ fn by_lanes<F: Field, EF: ExtensionField<F>>(
         plain::dot(entries, ext.as_slice()),
     );
     split.accumulate_into_packed(alloc, lanes.as_mut_slice(), Some(EF::TWO))?;
-    let sums = accumulated(alloc, ext.as_slice(), entries, EF::TWO)?;
+    let sums = plus_scaled(alloc, ext.as_slice(), EF::TWO, entries)?;
     let after = lanes.unpack::<F, EF>(alloc)?;
     report.values("SplitEq::accumulate_into_packed", after.as_slice(), &sums);
     Ok(())
