@@ -4,6 +4,8 @@
 # answer; then the merge gate, which proves every crate from nothing, tries the edits of
 # crates/*/must-fail, which must be refused, and runs the tests and the program.
 #
+# Then, where cargo is there and crates/mlu_c was built by rt lib, the tests of the package in bindings/rust.
+#
 # With --refusals NAME.., the allocations of those crates are refused and nothing else is done.
 #
 # With --edits NAME.., all edits of those crates are tried and nothing else: those of edits/NAME beside
@@ -110,10 +112,17 @@ fi
 
 refusals mlu_refusals
 refusals mlu
+refusals mlu_replay_refusals
 faulty 2 'mlu: length' -- eval 1,2,3 2
 faulty 3 'mlu: memory' --fail-alloc 1 -- eval 1,2,3,4 2,3
 status=0
 rt ci | tee "$room/said" || status=$?
 echo "all of it took $((SECONDS / 60)) minutes on $places processors"
+
+if [ ! -e crates/mlu_c/out/libmlu_c.a ] || ! command -v cargo >/dev/null; then
+  echo "there is no cargo, or rt lib has not built crates/mlu_c: the tests of bindings/rust were not run"
+elif ! (cd bindings/rust && cargo test && cargo build --examples); then
+  status=1
+fi
 tail -n 1 "$room/said"
 exit "$status"

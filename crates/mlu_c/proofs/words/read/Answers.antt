@@ -1,0 +1,28 @@
+use Rattle.std.proofs.Common.{◌≡◌, ℕ, ◌/◌, [], ◌∷◌, ◌++◌, ◌∙◌, length, map, ap, sym, zero-add, arith}
+use Rattle.std.specs.List.{range_with_len}
+use Rattle.std.proofs.lemmas.List.FromFn.{length-map-range_with_len, map-range_with_len_more}
+use Rattle.mlu_ring.specs.Matrices.{row_at}
+use Rattle.mlu_c.proofs.words.read.Goals as goal
+
+pub loop-j-preserved : goal.loop-j-preserved
+loop-j-preserved g c =
+    let coding = g.T.Words.coding in
+    let words = c.args.words.now in
+    let j = c.loop-j.j in
+    let element : ℕ → g.row.T.Denot = λ i. coding.element (row_at coding.width words i) in
+    let row : c.from_words.result ≡ element j = c.from_words.ensures ∙ ap coding.element (c.row_of_width.ensures ∙ ap (λ n. row_at n words j) c.width-width.ensures) in
+    c.in_ok-push.ensures.items
+    ∙ ap (λ xs. xs ++ (c.from_words.result ∷ [])) c.loop-j.invariant
+    ∙ ap (λ x. map element (range_with_len 0 j) ++ (x ∷ [])) row
+    ∙ sym (map-range_with_len_more element 0 j j (zero-add j))
+
+pub returns-clause-size : goal.returns-clause-size
+returns-clause-size g c =
+    let coding = g.T.Words.coding in
+    let words = c.args.words.now in
+    let element : ℕ → g.row.T.Denot = λ i. coding.element (row_at coding.width words i) in
+    let end : c.loop-j.j ≡ length words / c.width-width.result = omega arith in
+    ap length c.loop-j.invariant
+    ∙ length-map-range_with_len element 0 c.loop-j.j
+    ∙ end
+    ∙ ap (λ n. length words / n) c.width-width.ensures

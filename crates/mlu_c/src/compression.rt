@@ -1,0 +1,82 @@
+//! Tables compressed at a point, which stands for their first or their last variables.
+ghost use Rattle.std.specs.Prelude.{◌≡◌, ◌*◌, ◌^◌, map};
+ghost use Rattle.multilinear_util.specs.Compressions.{prefix_compressed, suffix_compressed};
+ghost use Rattle.mlu_c.specs.Calls.{Compresses};
+ghost use Rattle.mlu_c.specs.Codings.{AreResidues, element_count};
+ghost use Rattle.mlu_c.specs.Outcomes.{Tested};
+ghost use Rattle.mlu_c.specs.Sizes.{AreWhole, IsOne, IsTable};
+
+use crate::fault::Fault;
+use crate::operands::table_and_point;
+use crate::sizes::{are_residues, are_whole, count_of, has_rows, is_one, is_table};
+use crate::words::{Words, write};
+use mlu_ring::{ExtensionField, Field};
+use std::alloc::Global;
+
+/// Tests a table, a point, a scale and the room for the table that is left.
+fn test<A: Words, B: Words>(
+    table: &[u32],
+    point: &[u32],
+    scale: &[u32],
+    out: &[u32],
+) -> Result<(), Fault>
+    ensures { Tested
+        (IsTable A.coding table.now × AreWhole B.coding point.now × IsOne B.coding scale.now × IsTable B.coding out.now)
+        (element_count A.coding table.now ≡ 2 ^ element_count B.coding point.now * element_count B.coding out.now)
+        (AreResidues table.now × AreResidues point.now × AreResidues scale.now) result }
+{
+    if !is_table::<A>(table)
+        || !are_whole::<B>(point)
+        || !is_one::<B>(scale)
+        || !is_table::<B>(out)
+    {
+        return Err(Fault::Length);
+    }
+    if !has_rows(
+        count_of::<A>(table),
+        count_of::<B>(point),
+        count_of::<B>(out),
+    ) {
+        return Err(Fault::Arity);
+    }
+    if !are_residues(table) || !are_residues(point) || !are_residues(scale) {
+        return Err(Fault::Residue);
+    }
+    Ok(())
+}
+
+/// A table over the base with its first variables at a point, times a scale.
+pub fn compress_prefix<F: Field + Words, EF: ExtensionField<F> + Words>(
+    alloc: Global,
+    table: &[u32],
+    point: &[u32],
+    scale: &[u32],
+    out: &mut [u32],
+) -> Result<(), Fault>
+    ensures { Compresses F.coding EF.coding (λ e p s. prefix_compressed EF.ring s p (map EF.embed e))
+        table.now point.now scale.now out.old out.new result }
+{
+    test::<F, EF>(table, point, scale, out)?;
+    let (table, point) = table_and_point::<F, EF>(alloc, table, point)?;
+    let left = table.compress_prefix(alloc, &point, EF::from_words(scale))?;
+    write(left.as_slice(), out);
+    Ok(())
+}
+
+/// A table over the base with its last variables at a point, times a scale.
+pub fn compress_suffix<F: Field + Words, EF: ExtensionField<F> + Words>(
+    alloc: Global,
+    table: &[u32],
+    point: &[u32],
+    scale: &[u32],
+    out: &mut [u32],
+) -> Result<(), Fault>
+    ensures { Compresses F.coding EF.coding (λ e p s. suffix_compressed EF.ring s p (map EF.embed e))
+        table.now point.now scale.now out.old out.new result }
+{
+    test::<F, EF>(table, point, scale, out)?;
+    let (table, point) = table_and_point::<F, EF>(alloc, table, point)?;
+    let left = table.compress_suffix(alloc, &point, EF::from_words(scale))?;
+    write(left.as_slice(), out);
+    Ok(())
+}

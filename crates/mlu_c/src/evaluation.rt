@@ -1,0 +1,84 @@
+//! Values of tables at points.
+ghost use Rattle.std.specs.Prelude.{◌≡◌, ◌^◌, map};
+ghost use Rattle.mlu_ring.specs.Tables.{pair, value, weights};
+ghost use Rattle.mlu_ring.specs.Successor.{next};
+ghost use Rattle.mlu_c.specs.Calls.{Evaluates};
+ghost use Rattle.mlu_c.specs.Codings.{AreResidues, element_count};
+ghost use Rattle.mlu_c.specs.Outcomes.{Tested};
+ghost use Rattle.mlu_c.specs.Sizes.{AreWhole, IsOne, IsTable};
+
+use crate::fault::Fault;
+use crate::operands::table_and_point;
+use crate::sizes::{are_residues, are_whole, count_of, has_variables, is_one, is_table};
+use crate::words::Words;
+use mlu_ring::{ExtensionField, Field};
+use std::alloc::Global;
+
+/// Tests a table, a point and the room for an element.
+fn test<A: Words, B: Words>(table: &[u32], point: &[u32], out: &[u32]) -> Result<(), Fault>
+    ensures { Tested
+        (IsTable A.coding table.now × AreWhole B.coding point.now × IsOne B.coding out.now)
+        (element_count A.coding table.now ≡ 2 ^ element_count B.coding point.now)
+        (AreResidues table.now × AreResidues point.now) result }
+{
+    if !is_table::<A>(table) || !are_whole::<B>(point) || !is_one::<B>(out) {
+        return Err(Fault::Length);
+    }
+    if !has_variables(count_of::<A>(table), count_of::<B>(point)) {
+        return Err(Fault::Arity);
+    }
+    if !are_residues(table) || !are_residues(point) {
+        return Err(Fault::Residue);
+    }
+    Ok(())
+}
+
+/// The value of a table over the base at a point of the extension.
+pub fn eval_base<F: Field + Words, EF: ExtensionField<F> + Words>(
+    alloc: Global,
+    table: &[u32],
+    point: &[u32],
+    out: &mut [u32],
+) -> Result<(), Fault>
+    ensures { Evaluates F.coding EF.coding (λ e p. value EF.ring (map EF.embed e) p) table.now point.now out.old out.new result }
+{
+    test::<F, EF>(table, point, out)?;
+    let (table, point) = table_and_point::<F, EF>(alloc, table, point)?;
+    let value = table.eval_base(alloc, &point)?;
+    value.put(out);
+    Ok(())
+}
+
+/// The sum of the values of a table over the base, each times the weight at a point of the vertex
+/// that it is the next of.
+pub fn eval_next_base<F: Field + Words, EF: ExtensionField<F> + Words>(
+    alloc: Global,
+    table: &[u32],
+    point: &[u32],
+    out: &mut [u32],
+) -> Result<(), Fault>
+    ensures { Evaluates F.coding EF.coding (λ e p. pair EF.ring (next EF.ring (weights EF.ring p)) (map EF.embed e))
+        table.now point.now out.old out.new result }
+{
+    test::<F, EF>(table, point, out)?;
+    let (table, point) = table_and_point::<F, EF>(alloc, table, point)?;
+    let value = table.eval_next_base(alloc, &point)?;
+    value.put(out);
+    Ok(())
+}
+
+/// The value of a table over the extension at a point.
+pub fn eval_ext<F: Field, EF: ExtensionField<F> + Words>(
+    alloc: Global,
+    table: &[u32],
+    point: &[u32],
+    out: &mut [u32],
+) -> Result<(), Fault>
+    ensures { Evaluates EF.coding EF.coding (λ e p. value EF.ring e p) table.now point.now out.old out.new result }
+{
+    test::<EF, EF>(table, point, out)?;
+    let (table, point) = table_and_point::<EF, EF>(alloc, table, point)?;
+    let value = table.eval_ext::<F>(alloc, &point)?;
+    value.put(out);
+    Ok(())
+}

@@ -1,0 +1,65 @@
+//! Folds of the first and of the last variable, in place.
+ghost use Rattle.std.specs.Prelude.{◌≡◌, ◌<◌};
+ghost use Rattle.mlu_ring.specs.Tables.{front, back, line};
+ghost use Rattle.mlu_c.specs.Calls.{Folds};
+ghost use Rattle.mlu_c.specs.Codings.{AreResidues, element_count};
+ghost use Rattle.mlu_c.specs.Outcomes.{Tested};
+ghost use Rattle.mlu_c.specs.Sizes.{IsOne, IsTable};
+
+use crate::fault::Fault;
+use crate::operands::table;
+use crate::sizes::{are_residues, count_of, is_one, is_table};
+use crate::words::{Words, write};
+use mlu_ring::SelfAlgebra;
+use std::alloc::Global;
+
+/// Tests a table that has a variable, and an element.
+fn test<T: Words>(table: &[u32], r: &[u32]) -> Result<(), Fault>
+    ensures { Tested
+        (IsTable T.coding table.now × IsOne T.coding r.now)
+        (1 < element_count T.coding table.now)
+        (AreResidues table.now × AreResidues r.now) result }
+{
+    if !is_table::<T>(table) || !is_one::<T>(r) {
+        return Err(Fault::Length);
+    }
+    if count_of::<T>(table) <= 1 {
+        return Err(Fault::Arity);
+    }
+    if !are_residues(table) || !are_residues(r) {
+        return Err(Fault::Residue);
+    }
+    Ok(())
+}
+
+/// The table with its first variable at `r`.
+pub fn fix_prefix_var_mut<R: SelfAlgebra + Words>(
+    alloc: Global,
+    words: &mut [u32],
+    r: &[u32],
+) -> Result<(), Fault>
+    ensures { Folds R.coding (λ r e. front R.ring (line R.ring r) e) r.now words.old words.new result }
+{
+    test::<R>(words, r)?;
+    let mut table = table::<R>(alloc, words)?;
+    table.fix_prefix_var_mut(R::from_words(r));
+    let half = words.len() / 2;
+    write(table.as_slice(), &mut words[..half]);
+    Ok(())
+}
+
+/// The table with its last variable at `r`.
+pub fn fix_suffix_var_mut<R: SelfAlgebra + Words>(
+    alloc: Global,
+    words: &mut [u32],
+    r: &[u32],
+) -> Result<(), Fault>
+    ensures { Folds R.coding (λ r e. back R.ring (line R.ring r) e) r.now words.old words.new result }
+{
+    test::<R>(words, r)?;
+    let mut table = table::<R>(alloc, words)?;
+    table.fix_suffix_var_mut(R::from_words(r));
+    let half = words.len() / 2;
+    write(table.as_slice(), &mut words[..half]);
+    Ok(())
+}

@@ -1,0 +1,208 @@
+//! The calls of the library for C: multilinear polynomials over the integers modulo 2013265921 and
+//! their extension of degree four, in words.
+//!
+//! An element of the base field is one word, its least residue, and one of the extension four, those
+//! of its coefficients; a table or a point is the words of its elements, one after the other. A call
+//! tests the size of each operand, then whether the sizes fit one another, then whether the words
+//! that it reads are residues, and answers with a status: 0 where it is done, 1 to 4 as
+//! [`fault::Fault`] has them, and 5 where a proof is refused. It writes at the end alone, so an
+//! output is as before wherever the status is not 0.
+//!
+//! Stands on `multilinear_util` and `mlu_sumcheck`; `bindings/` stands on this crate.
+#![tactic(auto)]
+
+ghost use Rattle.std.specs.Prelude.{map};
+ghost use Rattle.mlu_ring.specs.Successor.{next};
+ghost use Rattle.mlu_ring.specs.Tables.{back, front, line, lsb, pair, value, weights};
+ghost use Rattle.multilinear_util.specs.Compressions.{prefix_compressed, suffix_compressed};
+ghost use Rattle.mlu_c.specs.Calls.{Batches, Compresses, Evaluates, Folds, Proves, Tabulates, Verifies};
+ghost use Rattle.mlu_c.specs.Outcomes.{Answers, Judges};
+ghost use Rattle.mlu_c.specs.Rings.{residue, coefficients, extension, embedded};
+
+mod batches;
+mod compression;
+mod evaluation;
+mod fault;
+mod folds;
+mod operands;
+mod sizes;
+mod sumcheck;
+mod tables;
+mod words;
+
+use crate::fault::{status, verdict};
+use mlu_ext::QuarticExtension;
+use mlu_lanes::BabyBear;
+use mlu_point::point::BitOrder;
+use std::alloc::Global;
+
+type Element = BabyBear<8>;
+
+type Extension = QuarticExtension<Element>;
+
+/// The value of a table over the base field at a point of the extension.
+#[unsafe(no_mangle)]
+pub extern "C" fn mlu_eval_base(alloc: Global, table: &[u32], point: &[u32], out: &mut [u32]) -> u32
+    ensures { Answers
+        (Evaluates (residue 8) (coefficients 8) (λ e p. value extension (map embedded e) p)
+        table.now point.now out.old out.new) result }
+{
+    status(evaluation::eval_base::<Element, Extension>(alloc, table, point, out))
+}
+
+/// The value of a table over the extension at a point.
+#[unsafe(no_mangle)]
+pub extern "C" fn mlu_eval_ext(alloc: Global, table: &[u32], point: &[u32], out: &mut [u32]) -> u32
+    ensures { Answers (Evaluates (coefficients 8) (coefficients 8) (value extension) table.now point.now out.old out.new) result }
+{
+    status(evaluation::eval_ext::<Element, Extension>(alloc, table, point, out))
+}
+
+/// The sum of the values of a table over the base field, each times the weight at a point of the
+/// vertex that it is the next of.
+#[unsafe(no_mangle)]
+pub extern "C" fn mlu_eval_next_base(
+    alloc: Global,
+    table: &[u32],
+    point: &[u32],
+    out: &mut [u32],
+) -> u32
+    ensures { Answers
+        (Evaluates (residue 8) (coefficients 8) (λ e p. pair extension (next extension (weights extension p)) (map embedded e))
+        table.now point.now out.old out.new) result }
+{
+    status(evaluation::eval_next_base::<Element, Extension>(alloc, table, point, out))
+}
+
+/// The weights of all vertices at a point, where coordinate 0 reads the highest bit of an index,
+/// each times a scale.
+#[unsafe(no_mangle)]
+pub extern "C" fn mlu_equality_weights_msb(
+    alloc: Global,
+    point: &[u32],
+    scale: &[u32],
+    out: &mut [u32],
+) -> u32
+    ensures { Answers
+        (Tabulates (coefficients 8) (λ p s. map (extension.product s) (weights extension p))
+        point.now scale.now out.old out.new) result }
+{
+    status(tables::equality_weights::<Extension>(alloc, BitOrder::Msb, point, scale, out))
+}
+
+/// The weights of all vertices at a point, where coordinate 0 reads the lowest bit of an index,
+/// each times a scale.
+#[unsafe(no_mangle)]
+pub extern "C" fn mlu_equality_weights_lsb(
+    alloc: Global,
+    point: &[u32],
+    scale: &[u32],
+    out: &mut [u32],
+) -> u32
+    ensures { Answers
+        (Tabulates (coefficients 8) (λ p s. map (extension.product s) (lsb extension p))
+        point.now scale.now out.old out.new) result }
+{
+    status(tables::equality_weights::<Extension>(alloc, BitOrder::Lsb, point, scale, out))
+}
+
+/// The sum of the equality tables of points, each times a scalar, written to the output or added to
+/// it. Each column of the values is a point, and each row a variable.
+#[unsafe(no_mangle)]
+pub extern "C" fn mlu_eval_eq_batch(
+    alloc: Global,
+    adds: bool,
+    values: &[u32],
+    scalars: &[u32],
+    out: &mut [u32],
+) -> u32
+    ensures { Answers (Batches (coefficients 8) extension adds values.now scalars.now out.old out.new) result }
+{
+    status(batches::eval_eq_batch::<Element, Extension>(alloc, adds, values, scalars, out))
+}
+
+/// A table over the extension with its first variable at `r`, in the first half of its words.
+#[unsafe(no_mangle)]
+pub extern "C" fn mlu_fix_prefix_var_mut(alloc: Global, table: &mut [u32], r: &[u32]) -> u32
+    ensures { Answers (Folds (coefficients 8) (λ x e. front extension (line extension x) e) r.now table.old table.new) result }
+{
+    status(folds::fix_prefix_var_mut::<Extension>(alloc, table, r))
+}
+
+/// A table over the extension with its last variable at `r`, in the first half of its words.
+#[unsafe(no_mangle)]
+pub extern "C" fn mlu_fix_suffix_var_mut(alloc: Global, table: &mut [u32], r: &[u32]) -> u32
+    ensures { Answers (Folds (coefficients 8) (λ x e. back extension (line extension x) e) r.now table.old table.new) result }
+{
+    status(folds::fix_suffix_var_mut::<Extension>(alloc, table, r))
+}
+
+/// A table over the base field with its first variables at a point of the extension, times a scale.
+#[unsafe(no_mangle)]
+pub extern "C" fn mlu_compress_prefix(
+    alloc: Global,
+    table: &[u32],
+    point: &[u32],
+    scale: &[u32],
+    out: &mut [u32],
+) -> u32
+    ensures { Answers
+        (Compresses (residue 8) (coefficients 8) (λ e p s. prefix_compressed extension s p (map embedded e))
+        table.now point.now scale.now out.old out.new) result }
+{
+    status(compression::compress_prefix::<Element, Extension>(alloc, table, point, scale, out))
+}
+
+/// A table over the base field with its last variables at a point of the extension, times a scale.
+#[unsafe(no_mangle)]
+pub extern "C" fn mlu_compress_suffix(
+    alloc: Global,
+    table: &[u32],
+    point: &[u32],
+    scale: &[u32],
+    out: &mut [u32],
+) -> u32
+    ensures { Answers
+        (Compresses (residue 8) (coefficients 8) (λ e p s. suffix_compressed extension s p (map embedded e))
+        table.now point.now scale.now out.old out.new) result }
+{
+    status(compression::compress_suffix::<Element, Extension>(alloc, table, point, scale, out))
+}
+
+/// The rounds of sumcheck over a table of the extension and the weights of a point, at challenges,
+/// and the claims: three elements for each round, and one claim more than rounds.
+#[unsafe(no_mangle)]
+pub extern "C" fn mlu_sumcheck_run(
+    alloc: Global,
+    table: &[u32],
+    point: &[u32],
+    challenges: &[u32],
+    rounds: &mut [u32],
+    claims: &mut [u32],
+) -> u32
+    ensures { Answers
+        (Proves (coefficients 8) extension table.now point.now challenges.now
+        rounds.old claims.old rounds.new claims.new) result }
+{
+    status(sumcheck::sumcheck_run::<Element, Extension>(
+        alloc, table, point, challenges, rounds, claims,
+    ))
+}
+
+/// Whether the rounds fit a claim at the challenges: the last claim where they do, and status 5
+/// where they don't.
+#[unsafe(no_mangle)]
+pub extern "C" fn mlu_sumcheck_verify(
+    alloc: Global,
+    claim: &[u32],
+    rounds: &[u32],
+    challenges: &[u32],
+    out: &mut [u32],
+) -> u32
+    ensures { Judges (Verifies (coefficients 8) extension claim.now rounds.now challenges.now out.old out.new) result }
+{
+    verdict(sumcheck::sumcheck_verify::<Extension>(alloc, claim, rounds, challenges, out))
+}
+
+#[cfg(test)]
+mod tests;

@@ -1,0 +1,71 @@
+//! Tests of operands: their sizes, and whether their words are residues.
+ghost use Rattle.std.specs.Prelude.{◌≡◌, ◌↔◌, ◌*◌, ◌/◌, ◌<◌, ◌^◌, IsTrue};
+ghost use Rattle.mlu_ring.specs.Matrices.{AreRows};
+ghost use Rattle.mlu_c.specs.Codings.{AreResidues, element_count};
+ghost use Rattle.mlu_c.specs.Sizes.{AreWhole, IsOne, IsTable};
+
+use crate::words::Words;
+use mlu_lanes::MODULUS;
+
+/// How many elements the words are.
+pub fn count_of<T: Words>(words: &[u32]) -> usize
+    ensures { result ≡ element_count T.coding words.now }
+{
+    words.len() / T::width()
+}
+
+/// Whether the words are those of whole elements.
+pub fn are_whole<T: Words>(words: &[u32]) -> bool
+    ensures { IsTrue result ↔ AreWhole T.coding words.now }
+{
+    words.len() % T::width() == 0
+}
+
+/// Whether the words are those of one element.
+pub fn is_one<T: Words>(words: &[u32]) -> bool
+    ensures { IsTrue result ↔ IsOne T.coding words.now }
+{
+    words.len() == T::width()
+}
+
+/// Whether the words are those of a power of two of elements.
+pub fn is_table<T: Words>(words: &[u32]) -> bool
+    ensures { IsTrue result ↔ IsTable T.coding words.now }
+{
+    are_whole::<T>(words) && count_of::<T>(words).is_power_of_two()
+}
+
+/// Whether a table of so many entries has so many variables.
+pub fn has_variables(entries: usize, variables: usize) -> bool
+    ensures { IsTrue result ↔ (entries ≡ 2 ^ variables) }
+{
+    variables < usize::BITS as usize && entries == 1 << variables
+}
+
+/// Whether so many entries are `2^variables` rows of so many.
+pub fn has_rows(entries: usize, variables: usize, width: usize) -> bool
+    ensures { IsTrue result ↔ (entries ≡ 2 ^ variables * width) }
+{
+    if variables >= usize::BITS as usize {
+        return width == 0 && entries == 0;
+    }
+    (1_usize << variables).checked_mul(width) == Some(entries)
+}
+
+/// Whether so many values are coordinates of so many points, and a table of so many entries has as
+/// many variables; with no points it may have any number.
+pub fn has_points(values: usize, points: usize, entries: usize) -> bool
+    ensures { IsTrue result ↔ AreRows values points × (0 < points → entries ≡ 2 ^ (values / points)) }
+{
+    if points == 0 {
+        return values == 0;
+    }
+    values % points == 0 && has_variables(entries, values / points)
+}
+
+/// Whether all words are residues.
+pub fn are_residues(words: &[u32]) -> bool
+    ensures { IsTrue result ↔ AreResidues words.now }
+{
+    words.iter().all(|word| *word < MODULUS)
+}
