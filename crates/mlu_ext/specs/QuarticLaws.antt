@@ -1,5 +1,5 @@
 -- The laws of the quartic's ring.
-use Rattle.std.specs.Prelude.{◌≡◌, ◌↔◌, ◌&&◌, IsTrue, Bool, true, false, [], ◌∷◌}
+use Rattle.std.specs.Prelude.{◌≡◌, ◌↔◌, ◌&&◌, IsTrue, Bool, true, false}
 use Rattle.std.proofs.Common.{sym, ap, ◌∙◌, refl}
 use Rattle.std.specs.Cmp.Derive.{both_true}
 use Rattle.mlu_ring.specs.Ring.{Ring, RingLaws, IsRingMap}

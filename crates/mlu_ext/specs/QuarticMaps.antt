@@ -6,7 +6,7 @@ use Rattle.mlu_ring.specs.Sums.{sum_below}
 use Rattle.mlu_ring.specs.Lanes.{IsLists}
 use Rattle.mlu_lanes.specs.LaneRing.{lane_ring, lane_laws, splat, splat_is_ring_map}
 use Rattle.mlu_ext.specs.Eleven.{eleven}
-use Rattle.mlu_ext.specs.Quartic.{quartic, quartic_coefficients, quartic_of, quartic_map, quartic_product, quartic_ring, constant}
+use Rattle.mlu_ext.specs.Quartic.{quartic_coefficients, quartic_of, quartic_map, quartic_product, quartic_ring, constant}
 use Rattle.mlu_ext.specs.QuarticLaws.{quartic_same, written, product-written, product-comm, constant-product}
 use Rattle.mlu_ext.specs.declared.quartic.QuarticExtension.{QuarticExtension}
 

@@ -1,12 +1,11 @@
 -- Double sums, one row at a time.
-use Rattle.std.proofs.Common.{◌≡◌, ℕ, ◌+◌, ◌*◌, ◌<◌, ◌≤◌, List, [], ◌∷◌, length, take, drop, get_or, replicate, sym, ap, ◌∙◌, arith}
+use Rattle.std.proofs.Common.{◌≡◌, ℕ, ◌+◌, ◌*◌, ◌<◌, ◌≤◌, List, [], ◌∷◌, length, take, drop, get_or, sym, ap, ◌∙◌, arith}
 use Rattle.std.proofs.lemmas.List.{get_or-take, get_or-drop, get_or_default, length-take-le}
 use Rattle.mlu_ring.specs.Ring.{Ring, RingLaws}
-use Rattle.mlu_ring.specs.Sums.{sum_of, sum_below}
-use Rattle.mlu_ring.specs.Lanes.{IsLists, IsLaneByLane}
+use Rattle.mlu_ring.specs.Sums.{sum_below}
 use Rattle.mlu_ring.specs.Tables.{pair}
 use Rattle.mlu_ring.proofs.SumsBelow.{sum_below-same, sum_below-product, sum_below-zero}
-use Rattle.mlu_ring.proofs.Totals.{sum_below-more, pair-take, total-sum, total-splat}
+use Rattle.mlu_ring.proofs.Totals.{sum_below-more, pair-take}
 use Rattle.mlu_kernel.specs.Kernels.{double_sum}
 
 module _ {R : Type 0} (ring : Ring R) (laws : RingLaws ring) where
@@ -51,18 +50,13 @@ module _ {R : Type 0} (ring : Ring R) (laws : RingLaws ring) where
       (ap (λ t. t ⊗ pair ring w (drop (j * length w) e)) (get_or_default rows j 𝟘 d h)
       ∙ ap (λ t. get_or rows j d ⊗ t) (sym (pair-take ring laws w (drop (j * length w) e))))
 
--- the lanes of a packed value, added up
-module _ {P V : Type 0} (packed : Ring P) (ring : Ring V) (laws : RingLaws ring) (lanes : P → List V) (of_lanes : List V → P) (n : ℕ) (parts : IsLists n lanes of_lanes) (each : IsLaneByLane n lanes packed ring) where
-  -- one more row: its packed dot with w, times its weight in every lane
-  pub total-row_more : (acc dot q : P) (rows w e : List V) (j r : ℕ) (x : V) → j < length rows → r ≡ length w → x ≡ get_or rows j x → lanes q ≡ replicate n x
-      → sum_of ring (lanes dot) ≡ pair ring w (take r (drop (j * r) e))
-      → sum_of ring (lanes acc) ≡ double_sum ring (take j rows) w e
-      → sum_of ring (lanes (packed.sum acc (packed.product dot q))) ≡ double_sum ring (take (j + 1) rows) w e
-  total-row_more acc dot q rows w e j r x h long at_x at_q is so_far =
-      total-sum packed ring laws lanes of_lanes n parts each acc (packed.product dot q)
-      ∙ ap (λ t. ring.sum t (sum_of ring (lanes (packed.product dot q)))) so_far
-      ∙ ap (λ t. ring.sum (double_sum ring (take j rows) w e) t)
-      (total-splat packed ring laws lanes of_lanes n parts each dot q x at_q
-      ∙ ap (λ t. ring.product x t) (is ∙ ap (λ k. pair ring w (take k (drop (j * k) e))) long)
-      ∙ ap (λ t. ring.product t (pair ring w (take (length w) (drop (j * length w) e)))) at_x)
-      ∙ sym (double_sum-take_more ring laws rows w e j x h)
+  -- the same, from what is read and what was summed
+  pub double_sum_step : (rows w e : List R) (j r : ℕ) (x acc dot : R) → j < length rows → r ≡ length w → x ≡ get_or rows j x
+      → dot ≡ pair ring w (take r (drop (j * r) e))
+      → acc ≡ double_sum ring (take j rows) w e
+      → acc ⊕ (x ⊗ dot) ≡ double_sum ring (take (j + 1) rows) w e
+  double_sum_step rows w e j r x acc dot h long at_x is so_far =
+      ap (λ t. t ⊕ (x ⊗ dot)) so_far
+      ∙ ap (λ t. double_sum ring (take j rows) w e ⊕ t)
+      (ap (λ t. t ⊗ dot) at_x ∙ ap (λ t. get_or rows j x ⊗ t) (is ∙ ap (λ k. pair ring w (take k (drop (j * k) e))) long))
+      ∙ sym (double_sum-take_more rows w e j x h)

@@ -16,9 +16,9 @@ module _ {R : Type 0} (ring : Ring R) (laws : RingLaws ring) where
   pair-one x e = sum_below-one ring laws (λ k. get_or (x ∷ []) k 𝟘 ⊗ get_or e k 𝟘)
 
   -- one more place, of which the entries were read
-  pub pair-take_more : (w e : List R) (i : ℕ) (x y : R) → i < length w → length w ≡ length e → x ≡ get_or w i x → y ≡ get_or e i y → pair ring (take (i + 1) w) e ≡ pair ring (take i w) e ⊕ (x ⊗ y)
-  pair-take_more w e i x y h long at_x at_y =
-      let within : i < length e = omega arith in
+  pub pair-take_more : (w e : List R) (i : ℕ) (x y : R) → i < length w → i < length e → x ≡ get_or w i x → y ≡ get_or e i y
+      → pair ring (take (i + 1) w) e ≡ pair ring (take i w) e ⊕ (x ⊗ y)
+  pair-take_more w e i x y h within at_x at_y =
       let start : i + 0 ≡ i = omega arith in
       ap (λ v. pair ring v e) (take_more w i x h)
       ∙ pair-append ring laws (take i w) (get_or w i x ∷ []) e
@@ -41,9 +41,9 @@ module _ {R : Type 0} (ring : Ring R) (laws : RingLaws ring) where
       let third : i + 3 ≡ i + 2 + 1 = omega arith in
       let end : j ≡ i + 3 + 1 = omega arith in
       ap (λ z. pair ring (take z w) e) end
-      ∙ pair-take_more w e (i + 3) d n (omega arith) long pd pn
-      ∙ ap (λ t. t ⊕ (d ⊗ n)) (ap (λ z. pair ring (take z w) e) third ∙ pair-take_more w e (i + 2) c m (omega arith) long pc pm
-      ∙ ap (λ t. t ⊕ (c ⊗ m)) (ap (λ z. pair ring (take z w) e) second ∙ pair-take_more w e (i + 1) b l (omega arith) long pb pl
-      ∙ ap (λ t. t ⊕ (b ⊗ l)) (pair-take_more w e i a k (omega arith) long pa pk)))
+      ∙ pair-take_more w e (i + 3) d n (omega arith) (omega arith) pd pn
+      ∙ ap (λ t. t ⊕ (d ⊗ n)) (ap (λ z. pair ring (take z w) e) third ∙ pair-take_more w e (i + 2) c m (omega arith) (omega arith) pc pm
+      ∙ ap (λ t. t ⊕ (c ⊗ m)) (ap (λ z. pair ring (take z w) e) second ∙ pair-take_more w e (i + 1) b l (omega arith) (omega arith) pb pl
+      ∙ ap (λ t. t ⊕ (b ⊗ l)) (pair-take_more w e i a k (omega arith) (omega arith) pa pk)))
       ∙ four_in_turn (pair ring (take i w) e) (a ⊗ k) (b ⊗ l) (c ⊗ m) (d ⊗ n)
       ∙ ap (λ t. pair ring (take i w) e ⊕ t) (sym (pair-of_four ring laws a b c d k l m n))

@@ -8,9 +8,7 @@ ghost use Rattle.mlu_kernel.specs.Kernels.{double_sum};
 use crate::basis_split::{MOST_COEFFICIENTS, MOST_WEIGHTS, row_dot_by_columns, split_coefficients};
 use crate::one_row::{lane_sum, row_dot_in_lanes};
 use crate::small::{SMALL_BYTES, is_small};
-use mlu_ring::{
-    Additive, Algebra, ExtensionField, Field, Lanewise, PackedFieldExtension, PackedValue, row_of,
-};
+use mlu_ring::{Additive, ExtensionField, Field, Lanewise, PackedValue, row_of};
 
 /// The sum over `j` and logical `i` of `eq0[j] * eq1[i] * chunk[j * N * W + i]`, where `eq1` has
 /// `N` packed weights of `W` lanes. Zero where either has no weights.
@@ -77,17 +75,17 @@ fn rows_by_columns<F: Field, EF: ExtensionField<F>, const D: usize>(
         (logical EF.ExtensionPacking.ext_lanes eq1.now) (map EF.embed chunk.now) }
 {
     let mut blocks = [F::Packing::ZERO; MOST_WEIGHTS];
-    let mut sum = EF::ExtensionPacking::ZERO;
+    let mut sum = EF::ZERO;
     for j in 0..eq0.len() {
         let row = &mut blocks[..eq1.len()];
         let dot = row_dot_by_columns::<F, EF, D>(eq1, split, row, chunk, eq0.len(), j);
-        let scaled = dot.scale(eq0[j]);
-        sum = sum + scaled;
+        sum = sum + eq0[j] * lane_sum::<F, EF>(dot);
     }
-    lane_sum::<F, EF>(sum)
+    sum
 }
 
-/// [`compress_hi_dot_packed`] with one packed dot a row. The lanes are added up at the end, once.
+/// [`compress_hi_dot_packed`] with one packed dot a row, whose lanes are added up before the weight of
+/// the row multiplies one element in place of all lanes.
 pub fn compress_hi_dot_packed_eager<F: Field, EF: ExtensionField<F>>(
     eq1: &[EF::ExtensionPacking],
     chunk: &[F],
@@ -97,10 +95,10 @@ pub fn compress_hi_dot_packed_eager<F: Field, EF: ExtensionField<F>>(
     ensures { result ≡ double_sum EF.ring eq0.now
         (logical EF.ExtensionPacking.ext_lanes eq1.now) (map EF.embed chunk.now) }
 {
-    let mut sum = EF::ExtensionPacking::ZERO;
+    let mut sum = EF::ZERO;
     for j in 0..eq0.len() {
         let dot = row_dot_in_lanes::<F, EF>(eq1, row_of(chunk, eq0.len(), j));
-        sum = sum + dot.scale(eq0[j]);
+        sum = sum + eq0[j] * lane_sum::<F, EF>(dot);
     }
-    lane_sum::<F, EF>(sum)
+    sum
 }

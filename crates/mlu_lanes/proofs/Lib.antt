@@ -1,5 +1,6 @@
 -- The lemmas of this crate.
 pub mod Entrywise
 pub mod OneLane
+pub mod PlaceSums
 pub mod ResidueSums
 pub mod PackedSums

@@ -1,17 +1,41 @@
 -- A list that a loop fills place by place.
-use Rattle.std.proofs.Common.{◌≡◌, ◌<◌, ◌≤◌, ◌≢◌, ◌+◌, ℕ, List, length, map, get_or, set, sym, ap, ◌∙◌, arith, get_or-set_other, get_or-set_same, below_more}
+use Rattle.std.proofs.Common.{◌≡◌, ◌<◌, ◌≤◌, ◌≢◌, ◌+◌, ℕ, List, length, map, get_or, set, sym, ap, ◌∙◌, arith, get_or-set_other, get_or-set_same, length-set, below_more}
 use Rattle.std.proofs.lemmas.List.{ext_get_or, get_or-map, get_or_default}
 
 module _ {A : Type 0} (d : A) where
-  -- below n the list xs has the entries of ys
+  -- below n the list xs has the entries that f gives
+  abbrev pub IsFilledBy : List A → (ℕ → A) → ℕ → Type 0
+  IsFilledBy xs f n = (k : ℕ) → k < n → get_or xs k d ≡ f k
+
+  pub filled_by_next : (xs : List A) (f : ℕ → A) (n : ℕ) (x : A) → n < length xs → IsFilledBy xs f n → x ≡ f n → IsFilledBy (set xs n x) f (n + 1)
+  filled_by_next xs f n x room done e =
+      below_more _ _
+      (λ k h. let other : k ≢ n = omega arith in get_or-set_other xs n k x d other ∙ done k h)
+      (get_or-set_same xs n x d room ∙ e)
+
+  -- four places more
+  pub filled_by_four : (xs : List A) (f : ℕ → A) (n m : ℕ) (w x y z : A) → m ≡ n + 4 → n + 3 < length xs → IsFilledBy xs f n
+      → w ≡ f n → x ≡ f (n + 1) → y ≡ f (n + 2) → z ≡ f (n + 3)
+      → IsFilledBy (set (set (set (set xs n w) (n + 1) x) (n + 2) y) (n + 3) z) f m
+  filled_by_four xs f n m w x y z end room done ew ex ey ez =
+      let one = set xs n w in
+      let two = set one (n + 1) x in
+      let three = set two (n + 2) y in
+      let long_one = length-set xs n w in
+      let long_two = length-set one (n + 1) x in
+      let long_three = length-set two (n + 2) y in
+      let upto_one = filled_by_next xs f n w (omega arith) done ew in
+      let upto_two = filled_by_next one f (n + 1) x (omega (arith, long_one)) upto_one ex in
+      let upto_three = filled_by_next two f (n + 2) y (omega (arith, long_one, long_two)) (λ k h. upto_two k (omega arith)) ey in
+      let upto_four = filled_by_next three f (n + 3) z (omega (arith, long_one, long_two, long_three)) (λ k h. upto_three k (omega arith)) ez in
+      λ k h. upto_four k (omega arith)
+
+  -- or those of ys
   abbrev pub IsFilled : List A → List A → ℕ → Type 0
   IsFilled xs ys n = (k : ℕ) → k < n → get_or xs k d ≡ get_or ys k d
 
   pub filled_next : (xs ys : List A) (n : ℕ) (x : A) → n < length xs → IsFilled xs ys n → x ≡ get_or ys n d → IsFilled (set xs n x) ys (n + 1)
-  filled_next xs ys n x room done e =
-      below_more _ _
-      (λ k h. let other : k ≢ n = omega arith in get_or-set_other xs n k x d other ∙ done k h)
-      (get_or-set_same xs n x d room ∙ e)
+  filled_next xs ys n x room done e = filled_by_next xs (λ k. get_or ys k d) n x room done e
 
   pub filled_whole : (xs ys : List A) (n : ℕ) → length xs ≤ n → length xs ≡ length ys → IsFilled xs ys n → xs ≡ ys
   filled_whole xs ys n h e done = ext_get_or d xs ys e (λ k below. done k (omega arith))

@@ -5,4 +5,5 @@ pub mod Successor
 pub mod Lanes
 pub mod Matrices
 pub mod Calls
+pub mod Fours
 pub mod Meters

@@ -1,5 +1,6 @@
 //! Commutative rings with one.
-ghost use Rattle.std.specs.Prelude.{◌≡◌, ◌∷◌, [], IfOk, IsOk, if◌then◌else◌, replicate};
+ghost use Rattle.std.specs.Prelude.{◌≡◌, ◌∷◌, [], ℕ, ◌<◌, IfOk, IsOk, if◌then◌else◌, replicate, length, slice_index_or};
+ghost use Rattle.mlu_ring.specs.Fours.{AreLong, places};
 ghost use Rattle.mlu_ring.specs.Tables.{pair};
 
 use crate::additive::Additive;
@@ -43,6 +44,59 @@ pub trait PrimeCharacteristicRing: Additive + Mul<Self, Output = Self> {
         ensures { result ≡ pair Self.ring (l.now.0 ∷ l.now.1 ∷ l.now.2 ∷ l.now.3 ∷ []) (r.now.0 ∷ r.now.1 ∷ r.now.2 ∷ r.now.3 ∷ []) }
     {
         l.0 * r.0 + l.1 * r.1 + (l.2 * r.2 + l.3 * r.3)
+    }
+
+    /// The row `l` times a matrix, which is given by its four columns.
+    ///
+    /// A product in an extension of degree 4 is one of these. Each entry is [`four_products`](Self::four_products)
+    /// with a column; a ring whose elements fit vectors makes all four at a time.
+    #[inline]
+    fn row_times_columns(
+        l: &(Self, Self, Self, Self),
+        first: &(Self, Self, Self, Self),
+        second: &(Self, Self, Self, Self),
+        third: &(Self, Self, Self, Self),
+        fourth: &(Self, Self, Self, Self),
+    ) -> (Self, Self, Self, Self)
+        ensures first { result.0 ≡ pair Self.ring (l.now.0 ∷ l.now.1 ∷ l.now.2 ∷ l.now.3 ∷ [])
+            (first.now.0 ∷ first.now.1 ∷ first.now.2 ∷ first.now.3 ∷ []) }
+        ensures second { result.1 ≡ pair Self.ring (l.now.0 ∷ l.now.1 ∷ l.now.2 ∷ l.now.3 ∷ [])
+            (second.now.0 ∷ second.now.1 ∷ second.now.2 ∷ second.now.3 ∷ []) }
+        ensures third { result.2 ≡ pair Self.ring (l.now.0 ∷ l.now.1 ∷ l.now.2 ∷ l.now.3 ∷ [])
+            (third.now.0 ∷ third.now.1 ∷ third.now.2 ∷ third.now.3 ∷ []) }
+        ensures fourth { result.3 ≡ pair Self.ring (l.now.0 ∷ l.now.1 ∷ l.now.2 ∷ l.now.3 ∷ [])
+            (fourth.now.0 ∷ fourth.now.1 ∷ fourth.now.2 ∷ fourth.now.3 ∷ []) }
+    {
+        (
+            Self::four_products(l, first),
+            Self::four_products(l, second),
+            Self::four_products(l, third),
+            Self::four_products(l, fourth),
+        )
+    }
+
+    /// The sums of four products, place by place. Asks for slices of one length.
+    ///
+    /// Each is [`four_products`](Self::four_products) of the elements at its place; a ring whose elements fit
+    /// vectors makes several at a time.
+    #[inline]
+    fn each_four_products(
+        out: &mut [Self],
+        l: &(&[Self], &[Self], &[Self], &[Self]),
+        r: &(&[Self], &[Self], &[Self], &[Self]),
+    )
+        requires left { AreLong (length out.old) l.now.0.now l.now.1.now l.now.2.now l.now.3.now }
+        requires right { AreLong (length out.old) r.now.0.now r.now.1.now r.now.2.now r.now.3.now }
+        ensures long { length out.new ≡ length out.old }
+        ensures each { (k : ℕ) → k < length out.old → slice_index_or out.new k Self.ring.zero
+            ≡ pair Self.ring (places l.now.0.now l.now.1.now l.now.2.now l.now.3.now k Self.ring.zero)
+            (places r.now.0.now r.now.1.now r.now.2.now r.now.3.now k Self.ring.zero) }
+    {
+        for k in 0..out.len() {
+            let left = (l.0[k], l.1[k], l.2[k], l.3[k]);
+            let right = (r.0[k], r.1[k], r.2[k], r.3[k]);
+            out[k] = Self::four_products(&left, &right);
+        }
     }
 
     /// `len` zeros, in one growth of exactly that many elements. None at all do not fail.

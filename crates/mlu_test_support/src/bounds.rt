@@ -2,7 +2,7 @@
 ghost use Rattle.std.specs.Prelude.{◌≡◌, ◌<◌, length};
 
 use crate::lists::{filled, pair};
-use crate::numbers::are;
+use crate::numbers::{are, elements};
 use mlu_ring::{
     Additive, Algebra, ExtensionField, Field, Lanewise, MapFrom, PackedFieldExtension, PackedValue,
     PrimeCharacteristicRing, RingMapFrom, SelfAlgebra,
@@ -22,6 +22,36 @@ pub fn products<R: PrimeCharacteristicRing>(a: R, b: R) -> R {
 /// 4 a b
 pub fn four_times<R: PrimeCharacteristicRing>(a: R, b: R) -> R {
     R::four_products(&(a, a, a, a), &(b, b, b, b))
+}
+
+/// Whether the row (a, b, a + b, 1) times a matrix has the sums of the products one by one.
+pub fn sums_columns<R: PrimeCharacteristicRing>(a: R, b: R) -> bool {
+    let (sum, product) = (a + b, a * b);
+    let l = (a, b, sum, R::ONE);
+    let (first, second) = ((b, a, product, sum), (sum, a, R::ZERO, b));
+    let (third, fourth) = ((R::ONE, product, b, a), (product, sum, a, R::ZERO));
+    let row = R::row_times_columns(&l, &first, &second, &third, &fourth);
+    row.0 == one_by_one(&l, &first)
+        && row.1 == one_by_one(&l, &second)
+        && row.2 == one_by_one(&l, &third)
+        && row.3 == one_by_one(&l, &fourth)
+}
+
+fn one_by_one<R: PrimeCharacteristicRing>(l: &(R, R, R, R), r: &(R, R, R, R)) -> R {
+    l.0 * r.0 + l.1 * r.1 + l.2 * r.2 + l.3 * r.3
+}
+
+/// Whether at five places 2 a b + 2 d is right for a = 1 to 5, b = 5 to 1, d = 0 to 4.
+pub fn sums_at_places<R: PrimeCharacteristicRing>(alloc: Global) -> Result<bool, AllocError> {
+    let a = elements::<R>(alloc, &[1, 2, 3, 4, 5])?;
+    let b = elements::<R>(alloc, &[5, 4, 3, 2, 1])?;
+    let one = elements::<R>(alloc, &[1, 1, 1, 1, 1])?;
+    let d = elements::<R>(alloc, &[0, 1, 2, 3, 4])?;
+    let mut out = elements::<R>(alloc, &[0, 0, 0, 0, 0])?;
+    let left = (a.as_slice(), b.as_slice(), one.as_slice(), d.as_slice());
+    let right = (b.as_slice(), a.as_slice(), d.as_slice(), one.as_slice());
+    R::each_four_products(out.as_mut_slice(), &left, &right);
+    Ok(are(out.as_slice(), &[10, 18, 22, 22, 18]))
 }
 
 /// Whether three zeros are three zeros.

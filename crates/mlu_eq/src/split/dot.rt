@@ -108,7 +108,7 @@ fn dot_of_rows<F: Additive, EF: Algebra<F>>(eq0: &[EF], weights: &[EF], entries:
     sum
 }
 
-/// The same of packed rows, whose lanes are added up at the end, once.
+/// The same of packed rows. Their lanes are added up before the entry of `eq0` multiplies them.
 fn dot_of_packed_rows<F: Field, EF: ExtensionField<F>>(
     eq0: &[EF],
     weights: &[EF::ExtensionPacking],
@@ -118,11 +118,12 @@ fn dot_of_packed_rows<F: Field, EF: ExtensionField<F>>(
     ensures { result ≡ double_sum EF.ring eq0.now
         (logical EF.ExtensionPacking.ext_lanes weights.now) (logical EF.ExtensionPacking.ext_lanes entries.now) }
 {
-    let mut sum = EF::ExtensionPacking::ZERO;
+    let mut sum = EF::ZERO;
     for j in 0..eq0.len() {
-        sum = sum + dot(weights, row_of(entries, eq0.len(), j)).scale(eq0[j]);
+        let row = dot(weights, row_of(entries, eq0.len(), j));
+        sum = sum + eq0[j] * lane_sum::<F, EF>(row);
     }
-    lane_sum::<F, EF>(sum)
+    sum
 }
 
 /// The sum of the products of weights and base entries.
@@ -138,18 +139,28 @@ pub(super) fn base_dot<F: Additive, EF: Algebra<F>>(weights: &[EF], entries: &[F
     sum
 }
 
-/// The sum of the products of weights and entries.
+/// The sum of the products of weights and entries, four at a time.
 #[inline]
 fn dot<R: PrimeCharacteristicRing>(weights: &[R], entries: &[R]) -> R
     requires { length entries.now ≡ length weights.now }
     ensures { result ≡ pair R.ring weights.now entries.now }
 {
+    let groups = weights.len() / GROUP;
     let mut sum = R::ZERO;
-    for i in 0..weights.len() {
+    for g in 0..groups {
+        let i = GROUP * g;
+        let left = (weights[i], weights[i + 1], weights[i + 2], weights[i + 3]);
+        let right = (entries[i], entries[i + 1], entries[i + 2], entries[i + 3]);
+        sum = sum + R::four_products(&left, &right);
+    }
+    for i in GROUP * groups..weights.len() {
         sum = sum + weights[i] * entries[i];
     }
     sum
 }
+
+/// The products that are summed before they are reduced.
+const GROUP: usize = 4;
 
 /// The packed weights times groups of entries: a value whose lanes add up to the dot.
 #[inline]

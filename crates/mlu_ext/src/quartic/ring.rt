@@ -75,11 +75,18 @@ impl<R: PrimeCharacteristicRing> Mul for QuarticExtension<R> {
         let r1 = times_eleven(c1);
         let r2 = times_eleven(c2);
         let r3 = times_eleven(c3);
+        let product = R::row_times_columns(
+            &own,
+            &(c0, r3, r2, r1),
+            &(c1, c0, r3, r2),
+            &(c2, c1, c0, r3),
+            &(c3, c2, c1, c0),
+        );
         QuarticExtension {
-            c0: R::four_products(&own, &(c0, r3, r2, r1)),
-            c1: R::four_products(&own, &(c1, c0, r3, r2)),
-            c2: R::four_products(&own, &(c2, c1, c0, r3)),
-            c3: R::four_products(&own, &(c3, c2, c1, c0)),
+            c0: product.0,
+            c1: product.1,
+            c2: product.2,
+            c3: product.3,
         }
     }
 }
@@ -144,6 +151,26 @@ impl<R: PrimeCharacteristicRing> PrimeCharacteristicRing for QuarticExtension<R>
     ghost TWO = { constant R.ZERO R.TWO };
 
     ghost NEG_ONE = { constant R.ZERO R.NEG_ONE };
+
+    // Sums of products of coefficients first: a row for each power of X on the left. What wraps is
+    // multiplied by eleven once.
+    #[inline(always)]
+    fn four_products(l: &(Self, Self, Self, Self), r: &(Self, Self, Self, Self)) -> Self {
+        let c0 = (r.0.c0, r.1.c0, r.2.c0, r.3.c0);
+        let c1 = (r.0.c1, r.1.c1, r.2.c1, r.3.c1);
+        let c2 = (r.0.c2, r.1.c2, r.2.c2, r.3.c2);
+        let c3 = (r.0.c3, r.1.c3, r.2.c3, r.3.c3);
+        let constant = R::row_times_columns(&(l.0.c0, l.1.c0, l.2.c0, l.3.c0), &c0, &c1, &c2, &c3);
+        let linear = R::row_times_columns(&(l.0.c1, l.1.c1, l.2.c1, l.3.c1), &c0, &c1, &c2, &c3);
+        let quadratic = R::row_times_columns(&(l.0.c2, l.1.c2, l.2.c2, l.3.c2), &c0, &c1, &c2, &c3);
+        let cubic = R::row_times_columns(&(l.0.c3, l.1.c3, l.2.c3, l.3.c3), &c0, &c1, &c2, &c3);
+        QuarticExtension {
+            c0: constant.0 + times_eleven(linear.3 + quadratic.2 + cubic.1),
+            c1: constant.1 + linear.0 + times_eleven(quadratic.3 + cubic.2),
+            c2: constant.2 + linear.1 + quadratic.0 + times_eleven(cubic.3),
+            c3: constant.3 + linear.2 + quadratic.1 + cubic.0,
+        }
+    }
 
     ghost can_mul_law = { λ a b. tt };
 

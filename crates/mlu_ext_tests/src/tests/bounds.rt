@@ -8,7 +8,7 @@ use mlu_ring::{
 use mlu_test_support::bounds::{
     adds_lanes, doubles, doubles_and_adds, doubles_lanes, four_times, gives_zeros, mapped,
     multiplies_lanes, packs_coefficients, products, ring_mapped, scaled, scaled_by_itself,
-    sum_of_lanes, sums,
+    sum_of_lanes, sums, sums_at_places, sums_columns,
 };
 use mlu_test_support::draws::drawn;
 use mlu_test_support::lists::filled;
@@ -36,7 +36,9 @@ fn ring_holds<R: Field + SelfAlgebra>(alloc: Global, row: RingRow<R>) -> Result<
     match row {
         RingRow::Sums(a, b, answer) => Ok(sums(a, b) == answer),
         RingRow::Products(a, b, answer) => Ok(products(a, b) == answer),
-        RingRow::FourProducts(a, b, answer) => Ok(four_times(a, b) == answer),
+        RingRow::FourProducts(a, b, answer) => {
+            Ok(four_times(a, b) == answer && sums_columns(a, b) && sums_at_places::<R>(alloc)?)
+        }
         RingRow::Scaled(a, b, answer) => Ok(scaled::<R, R>(a, b) == answer),
         RingRow::ScaledByItself(a, b, answer) => Ok(scaled_by_itself(a, b) == answer),
         RingRow::Zeros => gives_zeros::<R>(alloc),

@@ -39,8 +39,9 @@ pub fn sum_reduced<const W: usize>(words: Simd<u64, W>) -> Lanes<BabyBear<W>, W>
     lanes_of(reduce_each_word(words))
 }
 
+/// The products of residues lane by lane, unreduced: four of them add up to a word.
 #[inline(always)]
-fn residue_products<const W: usize>(a: Simd<u32, W>, b: Simd<u32, W>) -> Simd<u64, W>
+pub fn residue_products<const W: usize>(a: Simd<u32, W>, b: Simd<u32, W>) -> Simd<u64, W>
     requires { (j : ℕ) → j < W → (slice_index a j < MODULUS) × (slice_index b j < MODULUS) }
     ensures value { (j : ℕ) → j < W → slice_index result j ≡ slice_index a.entry j * slice_index b.entry j }
     ensures small { (j : ℕ) → j < W → slice_index result j < 2 ^ 62 }

@@ -4,9 +4,11 @@ ghost use Rattle.mlu_lanes.specs.BabyBear.{baby_bear_ring, baby_bear_laws, canon
 ghost use Rattle.mlu_lanes.specs.Residues.{eq_residues};
 
 use super::reduce::{reduce_once, reduce_product, reduce_word};
+use super::rows::{sum_of_rows, sums_at};
 use super::{BabyBear, MODULUS};
 use mlu_ring::{Additive, PrimeCharacteristicRing};
 use std::ops::{Add, Mul, Neg, Sub};
+use std::simd::prelude::*;
 
 impl<const W: usize> Add for BabyBear<W> {
     type Output = Self;
@@ -111,6 +113,53 @@ impl<const W: usize> PrimeCharacteristicRing for BabyBear<W> {
         }
     }
 
+    // The rows of the matrix in vectors, so that one reduction serves the four sums.
+    #[inline(always)]
+    fn row_times_columns(
+        l: &(Self, Self, Self, Self),
+        first: &(Self, Self, Self, Self),
+        second: &(Self, Self, Self, Self),
+        third: &(Self, Self, Self, Self),
+        fourth: &(Self, Self, Self, Self),
+    ) -> (Self, Self, Self, Self) {
+        let rows = (
+            Simd::from_array([first.0.value, second.0.value, third.0.value, fourth.0.value]),
+            Simd::from_array([first.1.value, second.1.value, third.1.value, fourth.1.value]),
+            Simd::from_array([first.2.value, second.2.value, third.2.value, fourth.2.value]),
+            Simd::from_array([first.3.value, second.3.value, third.3.value, fourth.3.value]),
+        );
+        let sums = sum_of_rows(l, &rows).to_array();
+        (
+            BabyBear { value: sums[0] },
+            BabyBear { value: sums[1] },
+            BabyBear { value: sums[2] },
+            BabyBear { value: sums[3] },
+        )
+    }
+
+    // Four places at a time.
+    #[inline(always)]
+    fn each_four_products(
+        out: &mut [Self],
+        l: &(&[Self], &[Self], &[Self], &[Self]),
+        r: &(&[Self], &[Self], &[Self], &[Self]),
+    ) {
+        let groups = out.len() / GROUP;
+        for g in 0..groups {
+            let k = GROUP * g;
+            let sums = sums_at(l, r, k).to_array();
+            out[k] = BabyBear { value: sums[0] };
+            out[k + 1] = BabyBear { value: sums[1] };
+            out[k + 2] = BabyBear { value: sums[2] };
+            out[k + 3] = BabyBear { value: sums[3] };
+        }
+        for k in GROUP * groups..out.len() {
+            let left = (l.0[k], l.1[k], l.2[k], l.3[k]);
+            let right = (r.0[k], r.1[k], r.2[k], r.3[k]);
+            out[k] = Self::four_products(&left, &right);
+        }
+    }
+
     ghost can_mul_law = { λ a b. tt };
 
     ghost multiplies = { λ a b r h. h };
@@ -119,6 +168,9 @@ impl<const W: usize> PrimeCharacteristicRing for BabyBear<W> {
 
     ghost neg_one_is = { refl };
 }
+
+/// The places that a vector of sums has.
+const GROUP: usize = 4;
 
 impl<const W: usize> BabyBear<W> {
     ghost use Rattle.std.specs.Prelude.{◌*◌, ◌^◌, ◌<◌};

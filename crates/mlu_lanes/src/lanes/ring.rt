@@ -125,13 +125,22 @@ impl<F: PrimeCharacteristicRing, const W: usize> PrimeCharacteristicRing for Lan
 
     ghost NEG_ONE = { splat W F.NEG_ONE };
 
-    // A function of its own: there the loop becomes vector instructions, and inlined it does not.
-    #[inline(never)]
+    #[inline]
     fn four_products(l: &(Self, Self, Self, Self), r: &(Self, Self, Self, Self)) -> Self {
         let mut values = [F::ZERO; W];
-        for k in 0..W {
-            values[k] = F::four_products(&lane_of_four(l, k), &lane_of_four(r, k));
-        }
+        let left = (
+            &l.0.values[..],
+            &l.1.values[..],
+            &l.2.values[..],
+            &l.3.values[..],
+        );
+        let right = (
+            &r.0.values[..],
+            &r.1.values[..],
+            &r.2.values[..],
+            &r.3.values[..],
+        );
+        F::each_four_products(&mut values, &left, &right);
         Lanes { values }
     }
 
@@ -142,30 +151,4 @@ impl<F: PrimeCharacteristicRing, const W: usize> PrimeCharacteristicRing for Lan
     ghost two_is = { splat_two W F.ring F.TWO F.two_is };
 
     ghost neg_one_is = { splat_neg_one W F.ring F.NEG_ONE F.neg_one_is };
-}
-
-impl<F: Copy, const W: usize> Lanes<F, W> {
-    // Lane k.
-    #[inline]
-    fn at(&self, k: usize) -> F
-        requires { k < W }
-        ensures { (d : F) → result ≡ slice_index_or (values_of self.now) k d }
-    {
-        self.values[k]
-    }
-}
-
-// Lane k of each of four.
-#[inline]
-fn lane_of_four<F: Copy, const W: usize>(
-    lanes: &(Lanes<F, W>, Lanes<F, W>, Lanes<F, W>, Lanes<F, W>),
-    k: usize,
-) -> (F, F, F, F)
-    requires { k < W }
-    ensures first { (d : F) → result.0 ≡ slice_index_or (values_of lanes.now.0) k d }
-    ensures second { (d : F) → result.1 ≡ slice_index_or (values_of lanes.now.1) k d }
-    ensures third { (d : F) → result.2 ≡ slice_index_or (values_of lanes.now.2) k d }
-    ensures fourth { (d : F) → result.3 ≡ slice_index_or (values_of lanes.now.3) k d }
-{
-    (lanes.0.at(k), lanes.1.at(k), lanes.2.at(k), lanes.3.at(k))
 }

@@ -11,6 +11,7 @@ use mlu_ring::{
 use mlu_test_support::bounds::{
     adds_lanes, doubles, doubles_and_adds, doubles_lanes, four_times, gives_zeros, mapped,
     multiplies_lanes, packs_coefficients, products, ring_mapped, scaled, scaled_by_itself, sums,
+    sums_at_places, sums_columns,
 };
 use mlu_test_support::draws::drawn;
 use mlu_test_support::lists::filled;
@@ -32,6 +33,7 @@ enum Row {
     Sums,
     Products,
     FourProducts,
+    FourProductsAtPlaces,
     Zeros,
     Scaled,
     PlaceByPlace,
@@ -53,6 +55,9 @@ fn holds<F: Field, EF: ExtensionField<F>>(alloc: Global, row: Row) -> Result<boo
         Row::Sums => Ok(adds::<EF>() && adds::<EF::ExtensionPacking>()),
         Row::Products => Ok(multiplies::<EF>() && multiplies::<EF::ExtensionPacking>()),
         Row::FourProducts => Ok(adds_products::<EF>() && adds_products::<EF::ExtensionPacking>()),
+        Row::FourProductsAtPlaces => Ok(
+            sums_at_places::<EF>(alloc)? && sums_at_places::<EF::ExtensionPacking>(alloc)?,
+        ),
         Row::Zeros => Ok(gives_zeros::<EF>(alloc)? && gives_zeros::<EF::ExtensionPacking>(alloc)?),
         Row::Scaled => Ok(
             scales::<F, EF>()
@@ -110,14 +115,14 @@ fn multiplies<R: PrimeCharacteristicRing>() -> bool {
     products::<R>(element(5), element(3)) == element(450)
 }
 
-/// 1 * 4 + 2 * 3 + 3 * 2 + 4 * 2, and four squares of -1
+/// 1 * 4 + 2 * 3 + 3 * 2 + 4 * 2, four squares of -1, and a row times a matrix
 fn adds_products<R: PrimeCharacteristicRing>() -> bool {
     let (three, four) = (element(3), element(4));
     let sum = R::four_products(
         &(R::ONE, R::TWO, three, four),
         &(four, three, R::TWO, R::TWO),
     );
-    sum == element(24) && four_times(R::NEG_ONE, R::NEG_ONE) == four
+    sum == element(24) && four_times(R::NEG_ONE, R::NEG_ONE) == four && sums_columns(three, four)
 }
 
 /// 5 * 3 + 2 * 3
@@ -197,6 +202,8 @@ fn rings(rt: HostRuntime) -> Result<(), Fail> {
     assert!(rt; words::<2>(rt.alloc(), Row::Products)?);
     assert!(rt; residues::<4>(rt.alloc(), Row::FourProducts)?);
     assert!(rt; words::<2>(rt.alloc(), Row::FourProducts)?);
+    assert!(rt; residues::<4>(rt.alloc(), Row::FourProductsAtPlaces)?);
+    assert!(rt; words::<2>(rt.alloc(), Row::FourProductsAtPlaces)?);
     assert!(rt; residues::<4>(rt.alloc(), Row::Zeros)?);
     assert!(rt; words::<2>(rt.alloc(), Row::Zeros)?);
     assert!(rt; residues::<4>(rt.alloc(), Row::Scaled)?);

@@ -106,7 +106,7 @@ impl<F: Field> PolyView<'_, F> {
         if point.num_variables() < recursion_threshold(BaseField::bytes()) {
             return Ok(eval_ext(self.as_slice(), point.as_slice()));
         }
-        let split = SplitEq::<BaseField, F>::new_packed(alloc, point, F::ONE)?;
+        let split = SplitEq::<BaseField, F>::new_unpacked(alloc, point, F::ONE)?;
         Ok(split.eval_ext(*self))
     }
 }

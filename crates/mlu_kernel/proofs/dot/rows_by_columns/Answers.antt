@@ -1,24 +1,19 @@
 use Rattle.std.proofs.Common.{◌*◌, ◌∙◌, [], map, length, refl, ap, sym}
 use Rattle.std.proofs.lemmas.List.{take_all}
 use Rattle.mlu_ring.specs.Lanes.{logical}
-use Rattle.mlu_ring.specs.Sums.{sum_of}
 use Rattle.mlu_ring.specs.Tables.{pair}
 use Rattle.mlu_ring.proofs.Logical.{length-logical}
 use Rattle.mlu_ring.proofs.Rows.{map-row_at}
-use Rattle.mlu_ring.proofs.Totals.{total-zero}
 use Rattle.mlu_kernel.specs.Kernels.{double_sum}
-use Rattle.mlu_kernel.proofs.DoubleSums.{double_sum-none, total-row_more}
+use Rattle.mlu_kernel.proofs.DoubleSums.{double_sum-none, double_sum_step}
 use Rattle.mlu_kernel.proofs.dot.rows_by_columns.Goals as goal
 
 pub loop-j-init : goal.loop-j-init
 loop-j-init g c =
-    let ring = g.EF.Additive.ring in
-    let laws = g.met.EF.Additive.laws in
-    let packed = g.EF.ExtensionPacking.PackedFieldExtension in
-    let met = g.met.EF.ExtensionPacking.PackedFieldExtension in
-    ap (λ p. sum_of ring (packed.ext_lanes p)) (c.ZERO-sum.ensures ∙ g.met.EF.ExtensionPacking.Additive.zero_is)
-    ∙ total-zero g.EF.ExtensionPacking.Additive.ring ring laws packed.ext_lanes packed.of_ext_lanes g.F.Packing.PackedValue.WIDTH met.lanes_are met.lane_by_lane
-    ∙ sym (double_sum-none ring laws [] (logical packed.ext_lanes c.args.eq1.now) (map g.EF.Algebra.embed c.args.chunk.now) refl)
+    let w = logical g.EF.ExtensionPacking.PackedFieldExtension.ext_lanes c.args.eq1.now in
+    c.ZERO-sum.ensures
+    ∙ g.met.EF.Additive.zero_is
+    ∙ sym (double_sum-none g.EF.Additive.ring g.met.EF.Additive.laws [] w (map g.EF.Algebra.embed c.args.chunk.now) refl)
 
 pub loop-j-preserved : goal.loop-j-preserved
 loop-j-preserved g c =
@@ -30,14 +25,13 @@ loop-j-preserved g c =
     let e = map embed c.args.chunk.now in
     let r = length c.args.eq1.now * g.F.Packing.PackedValue.WIDTH in
     let long = sym (length-logical packed.ext_lanes g.F.Packing.PackedValue.WIDTH met.lanes_are.length-parts c.args.eq1.now) in
-    let added = g.met.EF.ExtensionPacking.Additive.adds c.loop-j.sum c.scale-scaled.result c.add-sum.result c.add-sum.ensures in
     let dot = c.row_dot_by_columns-dot.ensures ∙ ap (pair ring w) (map-row_at embed r c.args.chunk.now c.loop-j.j) in
-    ap (λ p. sum_of ring (packed.ext_lanes p)) (added ∙ ap (g.EF.ExtensionPacking.Additive.ring.sum c.loop-j.sum) c.scale-scaled.ensures)
-    ∙ total-row_more g.EF.ExtensionPacking.Additive.ring ring g.met.EF.Additive.laws packed.ext_lanes packed.of_ext_lanes g.F.Packing.PackedValue.WIDTH met.lanes_are met.lane_by_lane
-    c.loop-j.sum c.row_dot_by_columns-dot.result (g.EF.ExtensionPacking.Algebra-1.embed c.index-eq0-j.result) c.args.eq0.now w e c.loop-j.j r c.index-eq0-j.result
-    c.loop-j-test.true long c.index-eq0-j.is (met.embeds_element c.index-eq0-j.result) dot c.loop-j.invariant
+    g.met.EF.Additive.adds c.loop-j.sum c.mul.result c.add-sum.result c.add-sum.ensures
+    ∙ ap (ring.sum c.loop-j.sum) (g.met.EF.PrimeCharacteristicRing.multiplies c.index-eq0-j.result c.lane_sum.result c.mul.result c.mul.ensures)
+    ∙ double_sum_step ring g.met.EF.Additive.laws c.args.eq0.now w e c.loop-j.j r c.index-eq0-j.result c.loop-j.sum c.lane_sum.result
+    c.loop-j-test.true long c.index-eq0-j.is (c.lane_sum.ensures ∙ dot) c.loop-j.invariant
 
 pub returns : goal.returns
 returns g c =
     let w = logical g.EF.ExtensionPacking.PackedFieldExtension.ext_lanes c.args.eq1.now in
-    c.lane_sum.ensures ∙ c.loop-j.invariant ∙ ap (λ rows. double_sum g.EF.Additive.ring rows w (map g.EF.Algebra.embed c.args.chunk.now)) (take_all c.loop-j.j c.args.eq0.now c.loop-j-test.false)
+    c.loop-j.invariant ∙ ap (λ rows. double_sum g.EF.Additive.ring rows w (map g.EF.Algebra.embed c.args.chunk.now)) (take_all c.loop-j.j c.args.eq0.now c.loop-j-test.false)

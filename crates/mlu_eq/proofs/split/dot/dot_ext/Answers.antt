@@ -2,9 +2,8 @@ use Rattle.std.proofs.Common.{◌∙◌, [], length, refl, ap, sym}
 use Rattle.std.proofs.lemmas.List.{take_all}
 use Rattle.mlu_ring.specs.Tables.{pair}
 use Rattle.mlu_kernel.specs.Kernels.{double_sum}
-use Rattle.mlu_kernel.proofs.DoubleSums.{double_sum-none}
+use Rattle.mlu_kernel.proofs.DoubleSums.{double_sum-none, double_sum_step}
 use Rattle.mlu_eq.proofs.Contents.{pair-contents}
-use Rattle.mlu_eq.proofs.Products.{double_sum_step}
 use Rattle.mlu_eq.proofs.split.dot.dot_ext.Goals as goal
 
 pub loop-j-init : goal.loop-j-init

@@ -4,21 +4,17 @@ use Rattle.mlu_ring.specs.Lanes.{logical}
 use Rattle.mlu_ring.specs.Sums.{sum_of}
 use Rattle.mlu_ring.specs.Tables.{pair}
 use Rattle.mlu_ring.proofs.Logical.{length-logical}
-use Rattle.mlu_ring.proofs.Totals.{total-zero}
 use Rattle.mlu_kernel.specs.Kernels.{double_sum}
-use Rattle.mlu_kernel.proofs.DoubleSums.{double_sum-none, total-row_more}
+use Rattle.mlu_kernel.proofs.DoubleSums.{double_sum-none, double_sum_step}
 use Rattle.mlu_eq.proofs.Products.{length-block, logical-block, total-pair}
 use Rattle.mlu_eq.proofs.split.dot.dot_of_packed_rows.Goals as goal
 
 pub loop-j-init : goal.loop-j-init
 loop-j-init g c =
-    let ring = g.EF.Additive.ring in
-    let laws = g.met.EF.Additive.laws in
-    let packed = g.EF.ExtensionPacking.PackedFieldExtension in
-    let met = g.met.EF.ExtensionPacking.PackedFieldExtension in
-    ap (λ p. sum_of ring (packed.ext_lanes p)) (c.ZERO-sum.ensures ∙ g.met.EF.ExtensionPacking.Additive.zero_is)
-    ∙ total-zero g.EF.ExtensionPacking.Additive.ring ring laws packed.ext_lanes packed.of_ext_lanes g.F.Packing.PackedValue.WIDTH met.lanes_are met.lane_by_lane
-    ∙ sym (double_sum-none ring laws [] (logical packed.ext_lanes c.args.weights.now) (logical packed.ext_lanes c.args.entries.now) refl)
+    let lanes = g.EF.ExtensionPacking.PackedFieldExtension.ext_lanes in
+    c.ZERO-sum.ensures
+    ∙ g.met.EF.Additive.zero_is
+    ∙ sym (double_sum-none g.EF.Additive.ring g.met.EF.Additive.laws [] (logical lanes c.args.weights.now) (logical lanes c.args.entries.now) refl)
 
 pub loop-j-preserved : goal.loop-j-preserved
 loop-j-preserved g c =
@@ -34,18 +30,17 @@ loop-j-preserved g c =
     let long = length-logical packed.ext_lanes n met.lanes_are.length-parts weights in
     let same = sym (length-block c.args.entries.now c.loop-j.j (length c.args.eq0.now) m c.loop-j-test.true c.requires) in
     let dot =
-    ap (λ p. sum_of ring (packed.ext_lanes p)) (c.dot.ensures ∙ ap (pair whole weights) (c.row_of.ensures.exact m c.requires))
+    c.lane_sum.ensures
+    ∙ ap (λ p. sum_of ring (packed.ext_lanes p)) (c.dot-row.ensures ∙ ap (pair whole weights) (c.row_of.ensures.exact m c.requires))
     ∙ total-pair whole g.met.EF.ExtensionPacking.Additive.laws ring g.met.EF.Additive.laws packed.ext_lanes packed.of_ext_lanes n met.lanes_are met.lane_by_lane weights (take m (drop (c.loop-j.j * m) c.args.entries.now)) same
     ∙ ap (pair ring w) (logical-block packed.ext_lanes n met.lanes_are.length-parts c.args.entries.now c.loop-j.j m) in
-    let added = g.met.EF.ExtensionPacking.Additive.adds c.loop-j.sum c.scale.result c.add-sum.result c.add-sum.ensures in
-    ap (λ p. sum_of ring (packed.ext_lanes p)) (added ∙ ap (whole.sum c.loop-j.sum) c.scale.ensures)
-    ∙ total-row_more whole ring g.met.EF.Additive.laws packed.ext_lanes packed.of_ext_lanes n met.lanes_are met.lane_by_lane
-    c.loop-j.sum c.dot.result (g.EF.ExtensionPacking.Algebra-1.embed c.index-eq0-j.result) c.args.eq0.now w e c.loop-j.j (m * n) c.index-eq0-j.result
-    c.loop-j-test.true (sym long) c.index-eq0-j.is (met.embeds_element c.index-eq0-j.result) dot c.loop-j.invariant
+    g.met.EF.Additive.adds c.loop-j.sum c.mul.result c.add-sum.result c.add-sum.ensures
+    ∙ ap (ring.sum c.loop-j.sum) (g.met.EF.PrimeCharacteristicRing.multiplies c.index-eq0-j.result c.lane_sum.result c.mul.result c.mul.ensures)
+    ∙ double_sum_step ring g.met.EF.Additive.laws c.args.eq0.now w e c.loop-j.j (m * n) c.index-eq0-j.result c.loop-j.sum c.lane_sum.result
+    c.loop-j-test.true (sym long) c.index-eq0-j.is dot c.loop-j.invariant
 
 pub returns : goal.returns
 returns g c =
     let lanes = g.EF.ExtensionPacking.PackedFieldExtension.ext_lanes in
-    c.lane_sum.ensures
-    ∙ c.loop-j.invariant
+    c.loop-j.invariant
     ∙ ap (λ rows. double_sum g.EF.Additive.ring rows (logical lanes c.args.weights.now) (logical lanes c.args.entries.now)) (take_all c.loop-j.j c.args.eq0.now c.loop-j-test.false)

@@ -2,8 +2,7 @@ use Rattle.std.proofs.Common.{◌∙◌, [], map, length, refl, ap, sym}
 use Rattle.std.proofs.lemmas.List.{take_all}
 use Rattle.mlu_ring.specs.Tables.{pair}
 use Rattle.mlu_kernel.specs.Kernels.{double_sum}
-use Rattle.mlu_kernel.proofs.DoubleSums.{double_sum-none}
-use Rattle.mlu_eq.proofs.Products.{double_sum_step}
+use Rattle.mlu_kernel.proofs.DoubleSums.{double_sum-none, double_sum_step}
 use Rattle.mlu_eq.proofs.RowsMapped.{row-map}
 use Rattle.mlu_eq.proofs.split.dot.dot_of_rows.Goals as goal
 

@@ -1,0 +1,84 @@
+//! Sums of four products, four at a time: a row of residues times a matrix, and slices place by place.
+ghost use Rattle.std.specs.Prelude.{◌≡◌, ℕ, ◌+◌, ◌*◌, ◌%◌, ◌<◌, length, slice_index};
+ghost use Rattle.mlu_lanes.specs.BabyBear.{canonical};
+ghost use Rattle.mlu_lanes.specs.Packed.{residue_at};
+
+use super::packed::residue_products;
+use super::reduce_each::reduce_each_word;
+use super::{BabyBear, MODULUS};
+use crate::words::{all, wide_sums};
+use std::simd::prelude::*;
+
+/// Lane `j` is the residue of the sum of the products of `l` and lane `j` of the rows of the matrix.
+#[inline(always)]
+pub fn sum_of_rows<const W: usize>(
+    l: &(BabyBear<W>, BabyBear<W>, BabyBear<W>, BabyBear<W>),
+    rows: &(Simd<u32, 4>, Simd<u32, 4>, Simd<u32, 4>, Simd<u32, 4>),
+) -> Simd<u32, 4>
+    requires first { (j : ℕ) → j < 4 → slice_index rows.now.0 j < MODULUS }
+    requires second { (j : ℕ) → j < 4 → slice_index rows.now.1 j < MODULUS }
+    requires third { (j : ℕ) → j < 4 → slice_index rows.now.2 j < MODULUS }
+    requires fourth { (j : ℕ) → j < 4 → slice_index rows.now.3 j < MODULUS }
+    ensures { (j : ℕ) → j < 4 → slice_index result j
+        ≡ (canonical l.now.0 * slice_index rows.now.0 j + canonical l.now.1 * slice_index rows.now.1 j
+        + (canonical l.now.2 * slice_index rows.now.2 j + canonical l.now.3 * slice_index rows.now.3 j)) % MODULUS }
+{
+    let low = wide_sums(
+        residue_products(all(l.0.value), rows.0),
+        residue_products(all(l.1.value), rows.1),
+    );
+    let high = wide_sums(
+        residue_products(all(l.2.value), rows.2),
+        residue_products(all(l.3.value), rows.3),
+    );
+    reduce_each_word(wide_sums(low, high))
+}
+
+/// The residues of the sums of four products, at four places from `k` on.
+#[inline(always)]
+pub fn sums_at<const W: usize>(
+    l: &(
+        &[BabyBear<W>],
+        &[BabyBear<W>],
+        &[BabyBear<W>],
+        &[BabyBear<W>],
+    ),
+    r: &(
+        &[BabyBear<W>],
+        &[BabyBear<W>],
+        &[BabyBear<W>],
+        &[BabyBear<W>],
+    ),
+    k: usize,
+) -> Simd<u32, 4>
+    requires left { (k + 3 < length l.now.0.now) × (k + 3 < length l.now.1.now) × (k + 3 < length l.now.2.now) × (k + 3 < length l.now.3.now) }
+    requires right { (k + 3 < length r.now.0.now) × (k + 3 < length r.now.1.now) × (k + 3 < length r.now.2.now) × (k + 3 < length r.now.3.now) }
+    ensures { (j : ℕ) → j < 4 → slice_index result j
+        ≡ (residue_at l.now.0.now (k + j) * residue_at r.now.0.now (k + j) + residue_at l.now.1.now (k + j) * residue_at r.now.1.now (k + j)
+        + (residue_at l.now.2.now (k + j) * residue_at r.now.2.now (k + j) + residue_at l.now.3.now (k + j) * residue_at r.now.3.now (k + j))) % MODULUS }
+{
+    let low = wide_sums(
+        residue_products(words_at(l.0, k), words_at(r.0, k)),
+        residue_products(words_at(l.1, k), words_at(r.1, k)),
+    );
+    let high = wide_sums(
+        residue_products(words_at(l.2, k), words_at(r.2, k)),
+        residue_products(words_at(l.3, k), words_at(r.3, k)),
+    );
+    reduce_each_word(wide_sums(low, high))
+}
+
+// The least residues at four places from `k` on. The compiler makes one load of them.
+#[inline(always)]
+fn words_at<const W: usize>(elements: &[BabyBear<W>], k: usize) -> Simd<u32, 4>
+    requires { k + 3 < length elements.now }
+    ensures value { (j : ℕ) → j < 4 → slice_index result j ≡ residue_at elements.now (k + j) }
+    ensures least { (j : ℕ) → j < 4 → slice_index result j < MODULUS }
+{
+    Simd::from_array([
+        elements[k].value,
+        elements[k + 1].value,
+        elements[k + 2].value,
+        elements[k + 3].value,
+    ])
+}

@@ -1,0 +1,10 @@
+-- Four lists side by side.
+use Rattle.std.specs.Prelude.{◌≡◌, ℕ, List, [], ◌∷◌, length, slice_index_or}
+
+-- each of the four has n entries
+abbrev pub AreLong : {A : Type 0} → ℕ → List A → List A → List A → List A → Type 0
+AreLong n w x y z = (length w ≡ n) × (length x ≡ n) × (length y ≡ n) × (length z ≡ n)
+
+-- entry k of each, or d past the end
+abbrev pub places : {A : Type 0} → List A → List A → List A → List A → ℕ → A → List A
+places w x y z k d = slice_index_or w k d ∷ slice_index_or x k d ∷ slice_index_or y k d ∷ slice_index_or z k d ∷ []
