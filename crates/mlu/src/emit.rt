@@ -15,7 +15,8 @@ const WRITE_FAILED: u8 = 4;
 pub fn emit<O: Write, E: Write>(answer: Result<Vec<u8>, Fault>, out: &mut O, err: &mut E) -> u8
     ensures line { IfOk answer (λ line. result ≢ 4 → (result ≡ 0) × Appends (O.contents out.old) (O.contents out.new) line.items) }
     ensures no_text { IfOk answer (λ _. err.new ≡ err.old) }
-    ensures text { IfErr answer (λ fault. result ≢ 4 → (result ≡ fault_status fault) × Appends (E.contents err.old) (E.contents err.new) (fault_text fault)) }
+    ensures text { IfErr answer (λ fault. result ≢ 4 → (result ≡ fault_status fault)
+        × Appends (E.contents err.old) (E.contents err.new) (fault_text fault)) }
     ensures no_line { IfErr answer (λ _. out.new ≡ out.old) }
 {
     match answer {

@@ -47,7 +47,8 @@ pub fn replay<R: BufRead, W: Write>(
 ) -> Result<Tally, Stop>
     ensures lines { IfOk result (λ tally. IfSome (R.remaining input.old) (λ bytes. tally.compared + tally.unknown ≡ line_count bytes)) }
     ensures within { IfOk result (λ tally. tally.differ ≤ tally.compared) }
-    ensures last { IfOk result (λ tally. GrowsTo (W.contents out.old) (W.contents out.new) (count_line tally.compared tally.differ tally.unknown)) }
+    ensures last { IfOk result (λ tally. GrowsTo (W.contents out.old) (W.contents out.new)
+        (count_line tally.compared tally.differ tally.unknown)) }
 {
     let mut tally = Tally::default();
     let mut line = Vec::new(alloc);
@@ -165,7 +166,8 @@ fn report_differing<W: Write>(
     answer: &str,
     out: &mut W,
 ) -> Result<(), Stop>
-    ensures line { OnOk result (Appends (W.contents out.old) (W.contents out.new) (differ_line number (first_word case.entry.asked.now) case.entry.given.now answer.now)) }
+    ensures line { OnOk result (Appends (W.contents out.old) (W.contents out.new)
+        (differ_line number (first_word case.entry.asked.now) case.entry.given.now answer.now)) }
     ensures stop { IfErr result (λ stop. stop ≡ Stop.Write) }
 {
     let (op, given) = (case.op(), case.given);

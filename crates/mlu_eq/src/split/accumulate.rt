@@ -76,7 +76,8 @@ pub(super) fn add_packed_rows<F: Field, EF: ExtensionField<F>>(
 )
     requires { length out.old ≡ length eq0.now * length weights.now }
     ensures { logical EF.ExtensionPacking.ext_lanes out.new
-        ≡ plus_scaled EF.ring (logical EF.ExtensionPacking.ext_lanes out.old) scale (contents EF.ring eq0.now (logical EF.ExtensionPacking.ext_lanes weights.now)) }
+        ≡ plus_scaled EF.ring (logical EF.ExtensionPacking.ext_lanes out.old) scale
+        (contents EF.ring eq0.now (logical EF.ExtensionPacking.ext_lanes weights.now)) }
 {
     for j in 0..eq0.len() {
         let start = j * weights.len();

@@ -39,7 +39,8 @@ pub fn compress_prefix_to_packed_into<F: Field, EF: ExtensionField<F>>(
 )
     requires { length entries.now ≡ length eq0.now * (length eq1.now.weights * (length out.old * F.Packing.WIDTH)) }
     ensures { logical EF.ExtensionPacking.ext_lanes out.new
-        ≡ plus_rows EF.ring (logical EF.ExtensionPacking.ext_lanes out.old) (contents EF.ring eq0.now eq1.now.weights) (map EF.embed entries.now) }
+        ≡ plus_rows EF.ring (logical EF.ExtensionPacking.ext_lanes out.old)
+        (contents EF.ring eq0.now eq1.now.weights) (map EF.embed entries.now) }
 {
     for j in 0..eq0.len() {
         add_rows_to_packed(eq1, eq0[j], out, row_of(entries, eq0.len(), j));
@@ -73,7 +74,8 @@ fn add_rows_to_packed<F: Field, EF: ExtensionField<F>>(
 )
     requires { length rows.now ≡ length eq1.now.weights * (length out.old * F.Packing.WIDTH) }
     ensures { logical EF.ExtensionPacking.ext_lanes out.new
-        ≡ plus_rows EF.ring (logical EF.ExtensionPacking.ext_lanes out.old) (map (EF.ring.product factor) eq1.now.weights) (map EF.embed rows.now) }
+        ≡ plus_rows EF.ring (logical EF.ExtensionPacking.ext_lanes out.old)
+        (map (EF.ring.product factor) eq1.now.weights) (map EF.embed rows.now) }
 {
     match eq1.weights() {
         Weights::Scalar(weights) => {
@@ -140,7 +142,8 @@ fn add_scalar_rows_to_packed<F: Field, EF: ExtensionField<F>>(
 )
     requires { length rows.now ≡ length weights.now * (length out.old * F.Packing.WIDTH) }
     ensures { logical EF.ExtensionPacking.ext_lanes out.new
-        ≡ plus_rows EF.ring (logical EF.ExtensionPacking.ext_lanes out.old) (map (EF.ring.product factor) weights.now) (map EF.embed rows.now) }
+        ≡ plus_rows EF.ring (logical EF.ExtensionPacking.ext_lanes out.old)
+        (map (EF.ring.product factor) weights.now) (map EF.embed rows.now) }
 {
     for i in 0..weights.len() {
         let row = row_of(rows, weights.len(), i);

@@ -153,7 +153,8 @@ fn add_border<F: Field, EF: ExtensionField<F>>(
     requires within { start < length eq0.now }
     requires row { length out.old ≤ length rows.now }
     ensures { out.new ≡ plus_rows EF.ring out.old
-        (row_weight EF.ring (length eq1.now.weights) start (shifted EF.ring (contents EF.ring eq0.now eq1.now.weights)) ∷ []) (map EF.embed rows.now) }
+        (row_weight EF.ring (length eq1.now.weights) start (shifted EF.ring (contents EF.ring eq0.now eq1.now.weights)) ∷ [])
+        (map EF.embed rows.now) }
 {
     if start == 0 {
         return;

@@ -51,11 +51,15 @@ pub fn sums_at<const W: usize>(
     ),
     k: usize,
 ) -> Simd<u32, 4>
-    requires left { (k + 3 < length l.now.0.now) × (k + 3 < length l.now.1.now) × (k + 3 < length l.now.2.now) × (k + 3 < length l.now.3.now) }
-    requires right { (k + 3 < length r.now.0.now) × (k + 3 < length r.now.1.now) × (k + 3 < length r.now.2.now) × (k + 3 < length r.now.3.now) }
+    requires left { (k + 3 < length l.now.0.now) × (k + 3 < length l.now.1.now)
+        × (k + 3 < length l.now.2.now) × (k + 3 < length l.now.3.now) }
+    requires right { (k + 3 < length r.now.0.now) × (k + 3 < length r.now.1.now)
+        × (k + 3 < length r.now.2.now) × (k + 3 < length r.now.3.now) }
     ensures { (j : ℕ) → j < 4 → slice_index result j
-        ≡ (residue_at l.now.0.now (k + j) * residue_at r.now.0.now (k + j) + residue_at l.now.1.now (k + j) * residue_at r.now.1.now (k + j)
-        + (residue_at l.now.2.now (k + j) * residue_at r.now.2.now (k + j) + residue_at l.now.3.now (k + j) * residue_at r.now.3.now (k + j))) % MODULUS }
+        ≡ (residue_at l.now.0.now (k + j) * residue_at r.now.0.now (k + j)
+        + residue_at l.now.1.now (k + j) * residue_at r.now.1.now (k + j)
+        + (residue_at l.now.2.now (k + j) * residue_at r.now.2.now (k + j)
+        + residue_at l.now.3.now (k + j) * residue_at r.now.3.now (k + j))) % MODULUS }
 {
     let low = wide_sums(
         residue_products(words_at(l.0, k), words_at(r.0, k)),

@@ -111,7 +111,8 @@ fn add_groups<
     requires space { length space.old ≡ length evals.values.now }
     requires size { length out.old ≡ 2 ^ (length evals.values.now / length shares.old) * F.Packing.WIDTH }
     ensures { out.new ≡ left_by EF.ring INITIALIZED out.old (logical EF.ExtensionPacking.ext_lanes
-        (batch EF.ExtensionPacking.ring (map E.packed_image evals.entry.values.now) shares.old (2 ^ (length evals.entry.values.now / length shares.old)))) }
+        (batch EF.ExtensionPacking.ring (map E.packed_image evals.entry.values.now) shares.old
+        (2 ^ (length evals.entry.values.now / length shares.old)))) }
 {
     if evals.height() == 0 {
         write_or_add_group::<F, EF, INITIALIZED>(out, sum(shares));
