@@ -28,6 +28,37 @@ pub fn both_forms_agree<F: Field + Sample, EF: ExtensionField<F> + Sample>(
     Ok(true)
 }
 
+/// Whether both forms of each kernel agree, for a few of these numbers and longer outputs too.
+pub fn both_forms_agree_at_few<F: Field + Sample, EF: ExtensionField<F> + Sample>(
+    alloc: Global,
+) -> Result<bool, AllocError>
+    requires { F.Packing.WIDTH < 32 }
+{
+    let mut rng = Pcg32::new(4, 54);
+    for n in 0..131 {
+        if (n <= 5 || n == 130) && !longer_forms_agree_at::<F, EF>(alloc, &mut rng, n)? {
+            return Ok(false);
+        }
+    }
+    Ok(true)
+}
+
+/// [`forms_agree_at`], and outputs of more packed values.
+fn longer_forms_agree_at<F: Field + Sample, EF: ExtensionField<F> + Sample>(
+    alloc: Global,
+    rng: &mut Pcg32,
+    n: usize,
+) -> Result<bool, AllocError>
+    requires weights { n < 256 }
+    requires lanes { F.Packing.WIDTH < 32 }
+{
+    Ok(
+        forms_agree_at::<F, EF>(alloc, rng, n)?
+            && prefix_forms_agree::<F, EF>(alloc, rng, n, 8)?
+            && prefix_forms_agree::<F, EF>(alloc, rng, n, 17)?,
+    )
+}
+
 /// Whether both forms of each kernel agree, for `n` packed weights: the dot of two rows, and outputs
 /// of a few lengths.
 fn forms_agree_at<F: Field + Sample, EF: ExtensionField<F> + Sample>(
@@ -78,7 +109,7 @@ fn prefix_forms_agree<F: Field + Sample, EF: ExtensionField<F> + Sample>(
     positions: usize,
 ) -> Result<bool, AllocError>
     requires weights { n < 256 }
-    requires positions { positions < 8 }
+    requires positions { positions < 32 }
     requires lanes { F.Packing.WIDTH < 32 }
 {
     let width = F::Packing::WIDTH;

@@ -1,7 +1,7 @@
 //! Worked rows, and drawn tables against the plain sums.
 ghost use Rattle.std.specs.Prelude.{◌≡◌, ◌<◌, ◌*◌, IfOk, length};
 
-use crate::both_forms::both_forms_agree;
+use crate::both_forms::{both_forms_agree, both_forms_agree_at_few};
 use mlu_ext::{ProductAlgebra, QuarticExtension};
 use mlu_kernel::one_row::{lane_sum, row_dot_in_lanes};
 use mlu_kernel::rows::row_dots;
@@ -27,6 +27,7 @@ enum Row {
     NoRow,
     PlainSums,
     BothForms,
+    BothFormsAtFew,
 }
 
 /// Whether the row holds.
@@ -43,6 +44,7 @@ fn holds<F: Field + Sample, EF: ExtensionField<F> + Sample>(
         Row::NoRow => dot_of_no_row::<F, EF>(alloc),
         Row::PlainSums => kernels_agree::<F, EF>(alloc),
         Row::BothForms => both_forms_agree::<F, EF>(alloc),
+        Row::BothFormsAtFew => both_forms_agree_at_few::<F, EF>(alloc),
     }
 }
 
@@ -69,21 +71,33 @@ where
 
 /// [`holds`] over an extension of residues. The bound names its field, since at products a call with
 /// two types as parameters is more than the prover takes.
-fn over_residues<EF: ExtensionField<BabyBear<4>> + Sample>(
+fn over_residues<const W: usize, EF: ExtensionField<BabyBear<W>> + Sample>(
     alloc: Global,
     row: Row,
-) -> Result<bool, AllocError> {
-    holds::<BabyBear<4>, EF>(alloc, row)
+) -> Result<bool, AllocError>
+where
+    Lanes<BabyBear<W>, W>: LaneWidth<W>,
+    requires { W < 32 }
+{
+    holds::<BabyBear<W>, EF>(alloc, row)
 }
 
 /// [`holds`] over products of eight copies, the most that the dot splits by coefficients.
-fn eight_copies(alloc: Global, row: Row) -> Result<bool, AllocError> {
-    over_residues::<ProductAlgebra<BabyBear<4>, 8>>(alloc, row)
+fn eight_copies<const W: usize>(alloc: Global, row: Row) -> Result<bool, AllocError>
+where
+    Lanes<BabyBear<W>, W>: LaneWidth<W>,
+    requires { W < 32 }
+{
+    over_residues::<W, ProductAlgebra<BabyBear<W>, 8>>(alloc, row)
 }
 
 /// [`holds`] over products of nine copies.
-fn nine_copies(alloc: Global, row: Row) -> Result<bool, AllocError> {
-    over_residues::<ProductAlgebra<BabyBear<4>, 9>>(alloc, row)
+fn nine_copies<const W: usize>(alloc: Global, row: Row) -> Result<bool, AllocError>
+where
+    Lanes<BabyBear<W>, W>: LaneWidth<W>,
+    requires { W < 32 }
+{
+    over_residues::<W, ProductAlgebra<BabyBear<W>, 9>>(alloc, row)
 }
 
 #[test]
@@ -94,7 +108,7 @@ fn worked_dots(rt: HostRuntime) -> Result<(), Fail> {
     assert!(rt; quartics::<4>(rt.alloc(), Row::OneRow)?);
     assert!(rt; residues::<4>(rt.alloc(), Row::NoRow)?);
     assert!(rt; quartics::<4>(rt.alloc(), Row::NoRow)?);
-    assert!(rt; nine_copies(rt.alloc(), Row::NoRow)?);
+    assert!(rt; nine_copies::<4>(rt.alloc(), Row::NoRow)?);
     Ok(())
 }
 
@@ -143,8 +157,44 @@ fn both_forms_over_the_quartic(rt: HostRuntime) -> Result<(), Fail> {
 
 #[test]
 fn both_forms_over_products(rt: HostRuntime) -> Result<(), Fail> {
-    assert!(rt; eight_copies(rt.alloc(), Row::BothForms)?);
-    assert!(rt; nine_copies(rt.alloc(), Row::BothForms)?);
+    assert!(rt; eight_copies::<4>(rt.alloc(), Row::BothForms)?);
+    assert!(rt; nine_copies::<4>(rt.alloc(), Row::BothForms)?);
+    Ok(())
+}
+
+#[test]
+fn a_few_over_the_field(rt: HostRuntime) -> Result<(), Fail> {
+    assert!(rt; residues::<1>(rt.alloc(), Row::BothFormsAtFew)?);
+    assert!(rt; residues::<2>(rt.alloc(), Row::BothFormsAtFew)?);
+    assert!(rt; residues::<4>(rt.alloc(), Row::BothFormsAtFew)?);
+    assert!(rt; residues::<8>(rt.alloc(), Row::BothFormsAtFew)?);
+    Ok(())
+}
+
+#[test]
+fn a_few_over_the_quartic(rt: HostRuntime) -> Result<(), Fail> {
+    assert!(rt; quartics::<1>(rt.alloc(), Row::BothFormsAtFew)?);
+    assert!(rt; quartics::<2>(rt.alloc(), Row::BothFormsAtFew)?);
+    assert!(rt; quartics::<4>(rt.alloc(), Row::BothFormsAtFew)?);
+    assert!(rt; quartics::<8>(rt.alloc(), Row::BothFormsAtFew)?);
+    Ok(())
+}
+
+#[test]
+fn a_few_over_eight_copies(rt: HostRuntime) -> Result<(), Fail> {
+    assert!(rt; eight_copies::<1>(rt.alloc(), Row::BothFormsAtFew)?);
+    assert!(rt; eight_copies::<2>(rt.alloc(), Row::BothFormsAtFew)?);
+    assert!(rt; eight_copies::<4>(rt.alloc(), Row::BothFormsAtFew)?);
+    assert!(rt; eight_copies::<8>(rt.alloc(), Row::BothFormsAtFew)?);
+    Ok(())
+}
+
+#[test]
+fn a_few_over_nine_copies(rt: HostRuntime) -> Result<(), Fail> {
+    assert!(rt; nine_copies::<1>(rt.alloc(), Row::BothFormsAtFew)?);
+    assert!(rt; nine_copies::<2>(rt.alloc(), Row::BothFormsAtFew)?);
+    assert!(rt; nine_copies::<4>(rt.alloc(), Row::BothFormsAtFew)?);
+    assert!(rt; nine_copies::<8>(rt.alloc(), Row::BothFormsAtFew)?);
     Ok(())
 }
 

@@ -5,9 +5,8 @@ use crate::given::{is_point, point};
 use crate::outcome::{Outcome, judge, written};
 use crate::residues::{Call as AnyCall, tried};
 use mlu_point::point::{BitOrder, Point, PointView};
-use mlu_ring::{Additive, Counter, Field, PrimeCharacteristicRing, Sample, Unmetered};
+use mlu_ring::{Additive, Counter, Field, PrimeCharacteristicRing, Sample};
 use mlu_test_support::numbers::{are, element, elements};
-use rand_core::SeedableRng;
 use rand_pcg::Pcg32;
 use std::alloc::{AllocError, Global};
 use std::slice;
@@ -36,7 +35,7 @@ pub fn made<R: Field + Sample>(alloc: Global, call: Call) -> Result<Outcome, All
     let answered = match call {
         Call::EqualityWeightsMsb => weights_msb(alloc, &point),
         Call::EqualityWeightsLsb => weights_lsb(alloc, &point),
-        Call::EqualityWeightsMetered => weights_metered(alloc, &point),
+        Call::EqualityWeightsMetered => return weights_metered(alloc, &point),
         Call::FillEqualityTableInChunks => return fill_in_chunks(alloc, &point),
         Call::GetSubpointOverRange => subpoint(alloc, &point),
         Call::Reversed => reversed(alloc, &point),
@@ -65,12 +64,23 @@ fn weights_lsb<R: Field>(alloc: Global, point: &Point<R>) -> Result<bool, AllocE
     Ok(are(weights.as_slice(), &[-8, 16, 12, -24, 10, -20, -15, 30]))
 }
 
-fn weights_metered<R: Field>(alloc: Global, point: &Point<R>) -> Result<bool, AllocError>
+/// A refused growth leaves the meter as it was.
+fn weights_metered<R: Field>(alloc: Global, point: &Point<R>) -> Result<Outcome, AllocError>
     requires fits { 2 ^ length point.now < 2 ^ 64 }
     requires low { 1 ≤ length point.now }
 {
-    let weights = point.equality_weights_metered(alloc, BitOrder::Lsb, 1, &mut Unmetered::new())?;
-    Ok(are(weights.as_slice(), &[-8, 16, 12, -24, 10, -20, -15, 30]))
+    let mut meter = Counter::new();
+    let answered = point.equality_weights_metered(alloc, BitOrder::Lsb, 1, &mut meter);
+    let products = if answered.is_ok() { 7 } else { 0 };
+    let counted = meter.made() == products && meter.groups() == 0;
+    let kept = counted && is_point(point);
+    Ok(match answered {
+        Ok(weights) => {
+            let right = are(weights.as_slice(), &[-8, 16, 12, -24, 10, -20, -15, 30]);
+            judge(Ok(right), kept)
+        }
+        Err(refused) => judge(Err(refused), kept),
+    })
 }
 
 /// A refused growth leaves the output as it was, and the meter.
@@ -146,7 +156,7 @@ fn transpose<R: Field>(alloc: Global, points: &[Point<R>]) -> Result<bool, Alloc
 }
 
 fn rand<T: Sample + Copy>(alloc: Global) -> Result<bool, AllocError> {
-    let mut rng = Pcg32::seed_from_u64(1);
+    let mut rng = Pcg32::new(1, 54);
     Ok(Point::<T>::rand(alloc, &mut rng, 5)?.num_variables() == 5)
 }
 

@@ -7,7 +7,6 @@ use crate::residues::{Call as AnyCall, tried};
 use mlu_ring::{Additive, Algebra, ExtensionField, Field, PrimeCharacteristicRing, Sample};
 use mlu_test_support::numbers::{are, element};
 use multilinear_util::poly::Poly;
-use rand_core::SeedableRng;
 use rand_pcg::Pcg32;
 use std::alloc::{AllocError, Global};
 use std::test::Fail;
@@ -70,7 +69,7 @@ fn pad_zeros<R: PrimeCharacteristicRing>(mut poly: Poly<R>) -> Outcome
 }
 
 fn rand<T: Sample + Copy>(alloc: Global) -> Result<bool, AllocError> {
-    let mut rng = Pcg32::seed_from_u64(1);
+    let mut rng = Pcg32::new(1, 54);
     Ok(Poly::<T>::rand(alloc, &mut rng, 3)?.num_evals() == 8)
 }
 

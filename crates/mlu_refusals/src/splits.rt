@@ -82,7 +82,10 @@ pub fn split<F: Field, EF: ExtensionField<F>>(
 }
 
 /// Whether the table has the weights of the point (2, 3, 5), which are added to `zeros`.
-fn has_weights<F: Field, EF: ExtensionField<F>>(split: &SplitEq<F, EF>, zeros: &mut [EF]) -> bool
+pub fn has_weights<F: Field, EF: ExtensionField<F>>(
+    split: &SplitEq<F, EF>,
+    zeros: &mut [EF],
+) -> bool
     requires { length zeros.old ≡ length (split_entries EF.ring split.now) }
 {
     split.accumulate_into(zeros, None);

@@ -6,8 +6,8 @@ ghost use Rattle.multilinear_util.specs.Split.{split_entries};
 use crate::given::{is_point, is_poly, point, poly};
 use crate::outcome::{Outcome, judge};
 use crate::residues::{Call as AnyCall, tried};
-use crate::splits::split;
-use mlu_ring::{ExtensionField, Field, SelfAlgebra};
+use crate::splits::{has_weights, split};
+use mlu_ring::{ExtensionField, Field, PrimeCharacteristicRing, SelfAlgebra};
 use mlu_sumcheck::run;
 use mlu_test_support::numbers::element;
 use multilinear_util::poly::Poly;
@@ -21,9 +21,13 @@ pub fn made<F: Field, EF: ExtensionField<F> + SelfAlgebra>(
 ) -> Result<Outcome, AllocError> {
     let poly = poly::<EF>(alloc)?;
     let point = point::<EF>(alloc)?;
+    let mut zeros = EF::zero_vec(alloc, 8)?;
     let weights = split::<F, EF>(alloc, &point)?;
     let answered = proved(alloc, &poly, &weights, point.as_slice());
-    Ok(judge(answered, is_poly(poly.as_slice()) && is_point(&point)))
+    let kept = has_weights(&weights, zeros.as_mut_slice())
+        && is_poly(poly.as_slice())
+        && is_point(&point);
+    Ok(judge(answered, kept))
 }
 
 /// Whether the claims begin with the value 20 and end with 20 times the weight (4 + 1) (9 + 4) (25 + 16).

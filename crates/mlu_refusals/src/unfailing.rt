@@ -12,7 +12,6 @@ use mlu_ring::{
 use mlu_test_support::numbers::{are, element, elements};
 use multilinear_util::poly::{PolyMaybePacked, PolyView};
 use multilinear_util::split_eq::SplitEq;
-use rand_core::SeedableRng;
 use rand_pcg::Pcg32;
 use std::alloc::{AllocError, Global};
 use std::slice;
@@ -45,7 +44,7 @@ pub fn made<F: Field + Sample, EF: ExtensionField<F>>(
 /// All calls that make or copy a point of no coordinates.
 fn empty_point<F: Field + Sample>(alloc: Global) -> Outcome {
     let mut point: Point<F> = Point::empty(alloc);
-    let mut rng = Pcg32::seed_from_u64(1);
+    let mut rng = Pcg32::new(1, 54);
     let copied = point.try_clone(alloc).is_ok()
         && point.reversed(alloc).is_ok()
         && point.split_at(alloc, 0).is_ok()

@@ -6,7 +6,7 @@ use crate::given::{is_point, point};
 use crate::outcome::{Outcome, judge, written};
 use crate::residues::{Call as AnyCall, tried};
 use mlu_point::point::{BitOrder, PointView};
-use mlu_ring::{Additive, Counter, Field, PrimeCharacteristicRing, Unmetered};
+use mlu_ring::{Additive, Counter, Field, PrimeCharacteristicRing};
 use mlu_test_support::numbers::{are, elements};
 use std::alloc::{AllocError, Global};
 use std::test::Fail;
@@ -29,7 +29,7 @@ pub fn made<R: Field>(alloc: Global, call: Call) -> Result<Outcome, AllocError> 
     let answered = match call {
         Call::EqualityWeightsMsb => weights_msb(alloc, view),
         Call::EqualityWeightsLsb => weights_lsb(alloc, view),
-        Call::EqualityWeightsMetered => weights_metered(alloc, view),
+        Call::EqualityWeightsMetered => return weights_metered(alloc, view),
         Call::FillEqualityTableInChunks => return fill_in_chunks(alloc, view),
         Call::GetSubpointOverRange => subpoint(alloc, view),
         Call::Reversed => reversed(alloc, view),
@@ -52,12 +52,23 @@ fn weights_lsb<R: Field>(alloc: Global, point: PointView<'_, R>) -> Result<bool,
     Ok(are(weights.as_slice(), &[-8, 16, 12, -24, 10, -20, -15, 30]))
 }
 
-fn weights_metered<R: Field>(alloc: Global, point: PointView<'_, R>) -> Result<bool, AllocError>
+/// A refused growth leaves the meter as it was.
+fn weights_metered<R: Field>(alloc: Global, point: PointView<'_, R>) -> Result<Outcome, AllocError>
     requires fits { 2 ^ length (coordinates point) < 2 ^ 64 }
     requires low { 1 ≤ length (coordinates point) }
 {
-    let weights = point.equality_weights_metered(alloc, BitOrder::Lsb, 1, &mut Unmetered::new())?;
-    Ok(are(weights.as_slice(), &[-8, 16, 12, -24, 10, -20, -15, 30]))
+    let mut meter = Counter::new();
+    let answered = point.equality_weights_metered(alloc, BitOrder::Lsb, 1, &mut meter);
+    let products = if answered.is_ok() { 7 } else { 0 };
+    let counted = meter.made() == products && meter.groups() == 0;
+    let kept = counted && are(point.as_slice(), &[2, 3, 5]);
+    Ok(match answered {
+        Ok(weights) => {
+            let right = are(weights.as_slice(), &[-8, 16, 12, -24, 10, -20, -15, 30]);
+            judge(Ok(right), kept)
+        }
+        Err(refused) => judge(Err(refused), kept),
+    })
 }
 
 /// A refused growth leaves the output as it was, and the meter.

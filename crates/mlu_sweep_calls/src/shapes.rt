@@ -6,7 +6,6 @@ use crate::{batches, folds, halves, kernels, points, polys, slices, splits};
 use mlu_ring::{ExtensionField, Field, Sample, SelfAlgebra};
 use multilinear_util::point::Point;
 use multilinear_util::poly::Poly;
-use rand_core::SeedableRng;
 use rand_pcg::Pcg32;
 use std::alloc::{AllocError, Global};
 
@@ -24,7 +23,7 @@ pub fn sweep<F: Field + Sample, EF: ExtensionField<F> + SelfAlgebra + Sample>(
     most: usize,
 ) -> Result<Option<Difference>, AllocError> {
     let mut report = Report::new();
-    let mut rng = Pcg32::seed_from_u64(1);
+    let mut rng = Pcg32::new(1, 54);
     kernels::compare::<F, EF>(alloc, &mut report, &mut rng)?;
     slices::fold::<F, EF>(alloc, &mut report, &mut rng)?;
     halves::compare::<F, EF>(alloc, &mut report, &mut rng)?;

@@ -94,7 +94,8 @@ fn compare_entries<F: Field, EF: ExtensionField<F>>(
     compress_to_lanes(alloc, report, split, entries, base, &images)
 }
 
-/// Compares the values of a polynomial over the base.
+/// Compares the values of a polynomial over the base. That of the next rows is also what the moved table
+/// leaves, one entry, and the last value times the last entry.
 fn evaluate<F: Field, EF: ExtensionField<F>>(
     alloc: Global,
     report: &mut Report,
@@ -110,6 +111,9 @@ fn evaluate<F: Field, EF: ExtensionField<F>>(
     let repeated = plain::dot(&next_by(alloc, Successor::RepeatLast, entries)?, images);
     let value = split.eval_next_base(base.as_view());
     report.value("SplitEq::eval_next_base", value, repeated);
+    let moved = split.compress_prefix_shifted(alloc, base.as_view())?;
+    let sum = plain::last(moved.as_slice()) + split.last_scalar() * plain::last(images);
+    report.value("SplitEq::eval_next_base in two parts", value, sum);
     let value = split.eval_next_base_by(Successor::RepeatLast, base.as_view());
     report.value("SplitEq::eval_next_base_by RepeatLast", value, repeated);
     let wrapped = plain::dot(&next_by(alloc, Successor::Wrap, entries)?, images);

@@ -11,7 +11,6 @@ use mlu_ring::{
 use mlu_test_support::draws::drawn;
 use mlu_test_support::numbers::{are, elements};
 use mlu_test_support::plain::{images, weight};
-use rand_core::SeedableRng;
 use rand_pcg::Pcg32;
 use std::alloc::{AllocError, Global};
 
@@ -78,10 +77,12 @@ pub fn rows_of_the_base<F: Field, EF: ExtensionField<F>>(
 pub fn without_points<F: Field, EF: ExtensionField<F>>(alloc: Global) -> Result<bool, AllocError> {
     let nines = [9, 9, 9];
     let kept = leaves::<F, EF, true>(alloc, &[], &[], &nines, &nines)?
-        && leaves_by_the_base::<F, EF, true>(alloc, &[], &[], &nines, &nines)?;
+        && leaves_by_the_base::<F, EF, true>(alloc, &[], &[], &nines, &nines)?
+        && leaves::<F, EF, true>(alloc, &[], &[], &[9, 9], &[9, 9])?;
     Ok(
         kept && leaves::<F, EF, false>(alloc, &[], &[], &nines, &[0, 0, 0])?
-            && leaves_by_the_base::<F, EF, false>(alloc, &[], &[], &nines, &[0, 0, 0])?,
+            && leaves_by_the_base::<F, EF, false>(alloc, &[], &[], &nines, &[0, 0, 0])?
+            && leaves::<F, EF, false>(alloc, &[], &[], &[9, 9], &[0, 0])?,
     )
 }
 
@@ -211,7 +212,7 @@ pub fn draws<F: Field, EF: ExtensionField<F> + Sample>(
     if n >= 10 || points >= 6 {
         return Ok(false);
     }
-    let mut rng = Pcg32::seed_from_u64(13);
+    let mut rng = Pcg32::new(13, 54);
     let elements: Vec<EF> = drawn(alloc, &mut rng, n * points + points + (1 << n))?;
     let (rows, others) = elements.as_slice().split_at(n * points);
     let (scalars, before) = others.split_at(points);
@@ -262,7 +263,7 @@ pub fn draws_of_the_base<F: Field + Sample, EF: ExtensionField<F> + Sample>(
     if n >= 10 || points >= 6 {
         return Ok(false);
     }
-    let mut rng = Pcg32::seed_from_u64(13);
+    let mut rng = Pcg32::new(13, 54);
     let rows: Vec<F> = drawn(alloc, &mut rng, n * points)?;
     let elements: Vec<EF> = drawn(alloc, &mut rng, points + (1 << n))?;
     let (scalars, before) = elements.as_slice().split_at(points);

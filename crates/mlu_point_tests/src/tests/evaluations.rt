@@ -6,7 +6,6 @@ use mlu_ring::{Additive, Algebra, ExtensionField, Field, PrimeCharacteristicRing
 use mlu_test_support::draws::drawn;
 use mlu_test_support::numbers::{are, element, elements};
 use mlu_test_support::plain::{dot, images, last, next, table, value, weight};
-use rand_core::SeedableRng;
 use rand_pcg::Pcg32;
 use std::alloc::{AllocError, Global};
 
@@ -84,7 +83,7 @@ pub fn drawn_steps<R: Field + Sample>(alloc: Global, n: usize) -> Result<bool, A
     if n >= 6 {
         return Ok(false);
     }
-    let mut rng = Pcg32::seed_from_u64(11);
+    let mut rng = Pcg32::new(11, 54);
     let coordinates: Vec<R> = drawn(alloc, &mut rng, n + n)?;
     let (point, row) = coordinates.as_slice().split_at(n);
     Ok(Point::eval_next(point, row) == plain_steps(alloc, point, row)?)
@@ -108,7 +107,7 @@ pub fn drawn_steps_by_rule<R: Field + Sample>(alloc: Global, n: usize) -> Result
     if n >= 6 {
         return Ok(false);
     }
-    let mut rng = Pcg32::seed_from_u64(11);
+    let mut rng = Pcg32::new(11, 54);
     let coordinates: Vec<R> = drawn(alloc, &mut rng, n + n)?;
     let (point, row) = coordinates.as_slice().split_at(n);
     let weights = table(alloc, point, R::ONE)?;
@@ -153,7 +152,7 @@ pub fn drawn_values<F: Field + Sample, EF: ExtensionField<F> + Sample>(
     if n >= 6 {
         return Ok(false);
     }
-    let mut rng = Pcg32::seed_from_u64(11);
+    let mut rng = Pcg32::new(11, 54);
     let p: Vec<F> = drawn(alloc, &mut rng, n)?;
     let q: Vec<EF> = drawn(alloc, &mut rng, n)?;
     let weights = table(alloc, p.as_slice(), F::ONE)?;

@@ -4,7 +4,6 @@ ghost use Rattle.std.specs.Prelude.{◌≡◌, length};
 use mlu_point::point::{Point, PointView};
 use mlu_ring::{Additive, Sample};
 use mlu_test_support::numbers::{are, element, elements};
-use rand_core::SeedableRng;
 use rand_pcg::Pcg32;
 use std::alloc::{AllocError, Global};
 
@@ -61,7 +60,7 @@ pub fn growth<R: Additive>(alloc: Global) -> Result<bool, AllocError> {
 
 /// Two draws, which differ.
 pub fn draws<T: Sample + Copy + Eq>(alloc: Global) -> Result<bool, AllocError> {
-    let mut rng = Pcg32::seed_from_u64(1);
+    let mut rng = Pcg32::new(1, 54);
     let first: Point<T> = Point::rand(alloc, &mut rng, 8)?;
     let second: Point<T> = Point::rand(alloc, &mut rng, 8)?;
     Ok(first.num_variables() == 8 && first != second)

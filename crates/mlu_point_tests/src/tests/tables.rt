@@ -6,7 +6,6 @@ use mlu_ring::{Additive, Counter, Field, PrimeCharacteristicRing, Sample, Unmete
 use mlu_test_support::draws::drawn;
 use mlu_test_support::numbers::{are, element, elements};
 use mlu_test_support::plain::table;
-use rand_core::SeedableRng;
 use rand_pcg::Pcg32;
 use std::alloc::{AllocError, Global};
 
@@ -128,7 +127,7 @@ pub fn draws<R: Field + Sample>(alloc: Global, n: usize) -> Result<bool, AllocEr
     if n >= 8 {
         return Ok(false);
     }
-    let mut rng = Pcg32::seed_from_u64(7);
+    let mut rng = Pcg32::new(7, 54);
     let point: Point<R> = Point::new(drawn(alloc, &mut rng, n)?);
     let weights = table(alloc, point.as_slice(), R::ONE)?;
     let msb = point.equality_weights_msb(alloc)? == weights;

@@ -184,3 +184,26 @@ fn compressed_by_the_moved_table(rt: HostRuntime) -> Result<(), Fail> {
     assert!(rt; residues(rt.alloc(), Row::MovedConstant)?);
     Ok(())
 }
+
+/// Whether the second half of the point (2) adds its weights, times 3, to 10 and 20, and the weight
+/// before, times 5, or 7 where there is none.
+pub fn adds_the_row_before<F: Field, EF: ExtensionField<F>>(
+    alloc: Global,
+) -> Result<bool, AllocError> {
+    let two = point::<EF>(alloc, &[2])?;
+    let split = SplitEq::<F, EF>::new_unpacked(alloc, &two, EF::ONE)?;
+    let mut out: Vec<EF> = elements(alloc, &[10, 20])?;
+    if split.eq1().num_variables() != 1 {
+        return Ok(false);
+    }
+    split
+        .eq1()
+        .accumulate_next_chunk_into(out.as_mut_slice(), element(3), element(5), element(7));
+    Ok(are(out.as_slice(), &[14, 21]))
+}
+
+#[test]
+fn step_of_the_second_half(rt: HostRuntime) -> Result<(), Fail> {
+    assert!(rt; residues(rt.alloc(), Row::StepOfTheSecondHalf)?);
+    Ok(())
+}

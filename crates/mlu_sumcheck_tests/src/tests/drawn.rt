@@ -9,7 +9,6 @@ use mlu_test_support::plain;
 use multilinear_util::point::Point;
 use multilinear_util::poly::Poly;
 use multilinear_util::split_eq::SplitEq;
-use rand_core::SeedableRng;
 use rand_pcg::Pcg32;
 use std::alloc::{AllocError, Global};
 
@@ -65,7 +64,7 @@ pub fn all_sizes_pass<F: Field, EF: ExtensionField<F> + SelfAlgebra + Sample>(
 ) -> Result<bool, AllocError>
     requires two_rounds_fit { 6 * type_size EF.row < 2 ^ 63 }
 {
-    let mut rng = Pcg32::seed_from_u64(27);
+    let mut rng = Pcg32::new(27, 54);
     for variables in 0..9 {
         if !passes::<F, EF>(alloc, &mut rng, variables)? {
             return Ok(false);

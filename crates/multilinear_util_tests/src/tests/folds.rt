@@ -41,13 +41,15 @@ fn folds_in_place(rt: HostRuntime) -> Result<(), Fail> {
     Ok(())
 }
 
-/// Whether the sums over the first variable of four entries and of two are right.
+/// Whether the sums over the first variable of four entries and of two are right, and a constant stays.
 pub fn sums<R: PrimeCharacteristicRing>(alloc: Global) -> Result<bool, AllocError> {
     let mut four = counted::<R>(alloc)?;
     four.sum_prefix_var_mut();
     let mut two = table::<R>(alloc, &[3, 4])?;
     two.sum_prefix_var_mut();
-    Ok(are(four.as_slice(), &[4, 6]) && are(two.as_slice(), &[7]))
+    let mut seven = table::<R>(alloc, &[7])?;
+    seven.sum_prefix_var_mut();
+    Ok(are(four.as_slice(), &[4, 6]) && are(two.as_slice(), &[7]) && are(seven.as_slice(), &[7]))
 }
 
 #[test]

@@ -8,7 +8,6 @@ use mlu_test_support::plain;
 use mlu_test_tables::{point, table};
 use multilinear_util::point::Point;
 use multilinear_util::poly::Poly;
-use rand_core::SeedableRng;
 use rand_pcg::Pcg32;
 use std::alloc::{AllocError, Global};
 use std::test::Fail;
@@ -17,7 +16,7 @@ use std::test::Fail;
 pub fn packs<F: Field, EF: ExtensionField<F> + Sample>(alloc: Global) -> Result<bool, AllocError>
     requires { F.Packing.WIDTH ≤ 32 }
 {
-    let mut rng = Pcg32::seed_from_u64(1);
+    let mut rng = Pcg32::new(1, 54);
     let poly = Poly::<EF>::rand(alloc, &mut rng, 5)?;
     let point = Point::<EF>::rand(alloc, &mut rng, 5)?;
     let value = plain::value(poly.as_slice(), point.as_slice());

@@ -5,7 +5,6 @@ use mlu_ring::{Additive, PrimeCharacteristicRing, Sample};
 use mlu_test_support::numbers::{are, element};
 use mlu_test_tables::table;
 use multilinear_util::poly::{Poly, PolyView};
-use rand_core::SeedableRng;
 use rand_pcg::Pcg32;
 use std::alloc::{AllocError, Global};
 use std::test::Fail;
@@ -109,7 +108,7 @@ fn grows_and_shrinks(rt: HostRuntime) -> Result<(), Fail> {
 
 /// Whether two draws differ.
 pub fn draws_two<R: PartialEq + Copy + Sample>(alloc: Global) -> Result<bool, AllocError> {
-    let mut rng = Pcg32::seed_from_u64(1);
+    let mut rng = Pcg32::new(1, 54);
     let first = Poly::<R>::rand(alloc, &mut rng, 3)?;
     let second = Poly::<R>::rand(alloc, &mut rng, 3)?;
     Ok(first.num_evals() == 8 && first != second)
