@@ -10,23 +10,18 @@ unsafe extern "C" {
     fn mlu_bench_call(
         out: *mut u32,
         out_len: usize,
+        times: *mut u64,
+        times_len: usize,
         entries: *const u32,
         entries_len: usize,
         point: *const u32,
         point_len: usize,
-        part: *const u32,
-        part_len: usize,
-        call: u32,
-        rounds: usize,
-    ) -> bool;
-    fn mlu_bench_batch(
-        out: *mut u32,
-        out_len: usize,
-        rows: *const u32,
-        rows_len: usize,
+        columns: *const u32,
+        columns_len: usize,
         scalars: *const u32,
         scalars_len: usize,
-        variables: usize,
+        kind: u32,
+        call: u32,
         rounds: usize,
     ) -> bool;
     fn mlu_bench_rounds(
@@ -46,33 +41,50 @@ unsafe extern "C" {
 /// The answer of so many calls.
 pub type Repeated<'a> = Box<dyn Fn(usize) -> Ext + 'a>;
 
-/// The call of `mlu_bench` with this number, on a table and points.
-pub fn call<'a>(entries: &'a [u32], point: &'a [u32], part: &'a [u32], call: u32) -> Repeated<'a> {
-    Box::new(move |rounds| {
+/// What calls of `mlu_bench` are made on, in words: a table and a point over the extension, of which the
+/// first words are those over the base; and for batches the coordinates of points in columns, with a
+/// scalar for each. The first scalar scales the other calls.
+pub struct Operands {
+    pub entries: Vec<u32>,
+    pub point: Vec<u32>,
+    pub columns: Vec<u32>,
+    pub scalars: Vec<u32>,
+}
+
+impl Operands {
+    /// The number of variables.
+    pub fn variables(&self) -> usize {
+        self.point.len() / 4
+    }
+
+    /// How often a call is made for one time: short calls in runs, so that the clock does not count.
+    pub fn run(&self) -> usize {
+        1 << 14_usize.saturating_sub(self.variables())
+    }
+
+    /// Makes the call with this kind and number so often for each of the times, and writes the nanoseconds
+    /// of processor time there. The sum of an entry of what each call gives.
+    pub fn time(&self, (kind, call): (u32, u32), rounds: usize, times: &mut [u64]) -> Ext {
         let mut out = ZERO;
         let served = unsafe {
             mlu_bench_call(
-                out.as_mut_ptr(), out.len(), entries.as_ptr(), entries.len(), point.as_ptr(), point.len(),
-                part.as_ptr(), part.len(), call, rounds,
+                out.as_mut_ptr(), out.len(), times.as_mut_ptr(), times.len(), self.entries.as_ptr(), self.entries.len(),
+                self.point.as_ptr(), self.point.len(), self.columns.as_ptr(), self.columns.len(),
+                self.scalars.as_ptr(), self.scalars.len(), kind, call, rounds,
             )
         };
         assert!(served);
         out
-    })
-}
+    }
 
-/// A batch of the tables of points, in the columns of `rows`.
-pub fn batch<'a>(rows: &'a [u32], scalars: &'a [u32], variables: usize) -> Repeated<'a> {
-    Box::new(move |rounds| {
-        let mut out = ZERO;
-        let served = unsafe {
-            mlu_bench_batch(
-                out.as_mut_ptr(), out.len(), rows.as_ptr(), rows.len(), scalars.as_ptr(), scalars.len(), variables, rounds,
-            )
-        };
-        assert!(served);
-        out
-    })
+    /// The call with this kind and number, in runs where so many are made.
+    pub fn repeated(&self, call: (u32, u32)) -> Repeated<'_> {
+        Box::new(move |rounds| {
+            let run = self.run().min(rounds);
+            assert_eq!(rounds % run, 0);
+            self.time(call, run, &mut vec![0; rounds / run])
+        })
+    }
 }
 
 /// The call of sumcheck with this number, on a table, weights at a point, and challenges.

@@ -11,7 +11,7 @@ mod library;
 mod plain;
 mod rows;
 
-use library::{Repeated, mlu_bench_lanes, mlu_bench_scalar};
+use library::{Operands, Repeated, mlu_bench_lanes, mlu_bench_scalar};
 use plain::{Ext, ONE, P, ZERO, add, reduce_once, reduce_product};
 use std::hint::black_box;
 use std::time::Instant;
@@ -120,34 +120,44 @@ fn row(name: &str, variables: usize, sides: [Repeated; 2]) {
 }
 
 fn calls(variables: usize) {
-    let entries = words(4 << variables, 1);
-    let point = words(4 * variables, 2);
-    let part = words(4 * (variables / 2), 3);
-    let library = |number| library::call(&entries, &point, &part, number);
-    let base = &entries[..1 << variables];
-    let ext = extensions(&entries);
-    let (z, part) = (extensions(&point), extensions(&part));
+    let operands = Operands {
+        entries: words(4 << variables, 1),
+        point: words(4 * variables, 2),
+        columns: Vec::new(),
+        scalars: ONE.to_vec(),
+    };
+    let library = |name| operands.repeated(rows::call(name));
+    let base = &operands.entries[..1 << variables];
+    let (ext, z) = (extensions(&operands.entries), extensions(&operands.point));
     let r = ONE;
     let halves = z.split_at(z.len() / 2);
     let (left, right) = (plain::table(halves.0, ONE), plain::table(halves.1, ONE));
-    row("equality table", variables, [repeated(|| plain::table(&z, ONE)[0]), library(0)]);
-    row("`eval_base`", variables, [repeated(|| plain::eval_base(base, &z)), library(1)]);
-    row("`eval_ext`", variables, [repeated(|| plain::eval_ext(&ext, &z)), library(2)]);
-    row("`fix_prefix_var_mut`, and a copy", variables, [repeated(|| plain::fix_prefix(&ext, r)[0]), library(3)]);
-    row("`fix_suffix_var_mut`, and a copy", variables, [repeated(|| plain::fix_suffix(&ext, r)[0]), library(4)]);
-    row("`compress_prefix`, half of the variables", variables, [repeated(|| plain::compress_prefix(base, &part, ONE)[0]), library(5)]);
-    row("`compress_suffix`, half of the variables", variables, [repeated(|| plain::compress_suffix(base, &part, ONE)[0]), library(6)]);
-    row("`SplitEq::eval_base`", variables, [repeated(|| plain::split_value(base, &left, &right)), library(7)]);
+    row("equality table", variables, [repeated(|| plain::table(&z, ONE)[0]), library("new_from_point EF")]);
+    row("`eval_base`", variables, [repeated(|| plain::eval_base(base, &z)), library("eval_base F at EF")]);
+    row("`eval_ext`", variables, [repeated(|| plain::eval_ext(&ext, &z)), library("eval_ext EF")]);
+    let [prefix, suffix] = ["fix_prefix_var_mut EF at EF", "fix_suffix_var_mut EF at EF"].map(library);
+    row("`fix_prefix_var_mut`, and a copy", variables, [repeated(|| plain::fix_prefix(&ext, r)[0]), prefix]);
+    row("`fix_suffix_var_mut`, and a copy", variables, [repeated(|| plain::fix_suffix(&ext, r)[0]), suffix]);
+    let [prefix, suffix] = ["compress_prefix F at EF (n/2)", "compress_suffix F at EF (n/2)"].map(library);
+    row("`compress_prefix`, half of the variables", variables, [repeated(|| plain::compress_prefix(base, halves.0, ONE)[0]), prefix]);
+    row("`compress_suffix`, half of the variables", variables, [repeated(|| plain::compress_suffix(base, halves.1, ONE)[0]), suffix]);
+    let split = library("SplitEq::eval_base F at EF (packed)");
+    row("`SplitEq::eval_base`", variables, [repeated(|| plain::split_value(base, &left, &right)), split]);
 }
 
 fn batches(variables: usize, points: usize) {
-    let rows = words(4 * variables * points, 4);
-    let scalars = words(4 * points, 5);
-    let coordinates = extensions(&rows);
+    let operands = Operands {
+        entries: words(4 << variables, 1),
+        point: words(4 * variables, 2),
+        columns: words(4 * variables * points, 4),
+        scalars: words(4 * points, 5),
+    };
+    let coordinates = extensions(&operands.columns);
     let columns: Vec<Vec<Ext>> = (0..points).map(|j| (0..variables).map(|i| coordinates[i * points + j]).collect()).collect();
-    let factors = extensions(&scalars);
+    let factors = extensions(&operands.scalars);
     let rust = repeated(|| plain::batch(&columns, &factors)[0]);
-    row(&format!("`eval_eq_batch`, points: {points}"), variables, [rust, library::batch(&rows, &scalars, variables)]);
+    let library = operands.repeated(rows::call("eval_eq_batch EF"));
+    row(&format!("`eval_eq_batch`, points: {points}"), variables, [rust, library]);
 }
 
 fn sumcheck(variables: usize) {

@@ -1,17 +1,69 @@
-//! The library alone, in the rows that the benchmark of the Rust crate prints, under their names: so far the
-//! calls over the extension of degree four that `mlu_bench` has.
+//! The library alone, in the rows that the benchmark of the Rust crate prints, under their names.
 //!
 //! `--n 10,16,20 --only TEXT --time SECONDS`: the numbers of variables, the rows whose name holds the text,
-//! and how long each is timed. The two numbers of a row are the least and the median time of an entry. The
-//! copy that a call in place needs is taken off.
+//! and how long each is timed. The two numbers of a row are the least and the median processor time of an
+//! entry of the biggest table that is read or written; a batch counts its outputs once, and folds in
+//! sequence their first table. Copies that a call in place needs are made before and not timed, and freed
+//! blocks of memory are kept for later calls.
 
-use crate::library::{Repeated, batch, call, rounds};
+use crate::library::Operands;
 use crate::words;
 use std::hint::black_box;
-use std::time::{Duration, Instant};
+use std::time::Duration;
 
 /// The lane width of the library's rings.
 const WIDTH: usize = 8;
+
+/// Each call by its name, with its kind and its number as `mlu_bench` has them.
+const CALLS: [(&str, (u32, u32)); 42] = [
+    ("equality_weights_msb F", (0, 0)),
+    ("equality_weights_lsb F", (0, 1)),
+    ("new_from_point F", (0, 2)),
+    ("equality_weights_msb EF", (8, 0)),
+    ("new_from_point EF", (8, 2)),
+    ("new_packed_from_point EF", (3, 3)),
+    ("eval_base F at F", (9, 0)),
+    ("eval_base F at EF", (9, 1)),
+    ("SplitEq::eval_base F at EF (packed)", (9, 2)),
+    ("SplitEq::eval_base F at EF (unpacked)", (9, 3)),
+    ("eval_next_base F at EF", (9, 4)),
+    ("fix_prefix_var F at F", (1, 0)),
+    ("fix_prefix_var F at EF", (5, 0)),
+    ("fix_prefix_var_to_packed F at EF", (3, 4)),
+    ("fix_suffix_var F at F", (1, 1)),
+    ("fix_suffix_var F at EF", (5, 1)),
+    ("fix_prefix_var_mut F at F", (2, 0)),
+    ("fix_suffix_var_mut F at F", (2, 1)),
+    ("compress_prefix F at EF (n/2)", (10, 0)),
+    ("compress_prefix_to_packed F at EF (n/2)", (10, 1)),
+    ("compress_suffix F at EF (n/2)", (10, 2)),
+    ("compress_prefix_shifted F at EF (n/2)", (10, 3)),
+    ("compress_suffix_shifted F at EF (n/2)", (10, 4)),
+    ("sumcheck folds F, then EF in place", (11, 0)),
+    ("sumcheck folds F to packed EF in place", (11, 1)),
+    ("eval_ext EF", (9, 5)),
+    ("fix_prefix_var EF at EF", (6, 0)),
+    ("fix_suffix_var EF at EF", (6, 1)),
+    ("fix_prefix_var_mut EF at EF", (7, 0)),
+    ("fix_suffix_var_mut EF at EF", (7, 1)),
+    ("fix_prefix_var_mut_monomial EF at EF", (7, 2)),
+    ("sumcheck folds EF in place", (7, 3)),
+    ("pack EF", (3, 0)),
+    ("unpack EF", (3, 1)),
+    ("eval_packed EF", (3, 2)),
+    ("fix_prefix_var_mut packed EF at EF", (4, 0)),
+    ("sumcheck folds packed EF in place", (4, 3)),
+    ("SplitEq::accumulate_into EF", (12, 0)),
+    ("SplitEq::materialize EF", (12, 1)),
+    ("SplitEq::accumulate_into_packed EF", (12, 2)),
+    ("eval_eq_batch EF", (13, 0)),
+    ("eval_eq_base_batch F to EF", (13, 1)),
+];
+
+/// The kind and the number of the call with this name.
+pub fn call(name: &str) -> (u32, u32) {
+    CALLS.into_iter().find(|(known, _)| *known == name).expect("a call").1
+}
 
 /// What the command line asks.
 pub struct Asked {
@@ -38,66 +90,68 @@ impl Asked {
     }
 }
 
-/// The seconds that a side takes.
-fn seconds(side: &Repeated, rounds: usize) -> f64 {
-    let start = Instant::now();
-    black_box(side(black_box(rounds)));
-    start.elapsed().as_secs_f64()
+unsafe extern "C" {
+    /// Sets a parameter of the C library's allocator.
+    fn mallopt(parameter: i32, value: i32) -> i32;
 }
 
-/// The seconds of one call, least and median, without what comes before the first: those of `2 n` calls
-/// less those of `n`.
-fn once(side: &Repeated, variables: usize, time: Duration) -> [f64; 2] {
-    let rounds = ((1 << 18) >> variables).max(1);
-    let start = Instant::now();
-    let (mut least, mut all) = ([f64::MAX; 2], Vec::new());
-    while all.len() < 5 || start.elapsed() < time {
-        let [few, many] = [rounds, 2 * rounds].map(|n| seconds(side, n));
-        least = [least[0].min(few), least[1].min(many)];
-        all.push(many - few);
-    }
-    all.sort_by(f64::total_cmp);
-    [least[1] - least[0], all[all.len() / 2]].map(|time| time / rounds as f64)
+/// Lets the allocator keep freed blocks, so that the page faults of new ones do not count.
+fn keep_blocks() {
+    const TRIM_THRESHOLD: i32 = -1;
+    const MMAP_MAX: i32 = -4;
+    let set = unsafe { [mallopt(TRIM_THRESHOLD, -1), mallopt(MMAP_MAX, 0)] };
+    assert_eq!(set, [1, 1]);
 }
 
-/// Prints a row, where it is asked for: a share of the first side, without the second.
-fn row(asked: &Asked, name: &str, variables: usize, side: &Repeated, less: Option<&Repeated>, share: f64) {
+/// The nanoseconds of one call, least and median.
+fn once(operands: &Operands, call: (u32, u32), time: Duration) -> [f64; 2] {
+    let run = operands.run();
+    let timed = |samples| {
+        let mut times = vec![0; samples];
+        black_box(operands.time(call, run, &mut times));
+        times.sort();
+        times
+    };
+    let first = timed(5)[0].max(1);
+    let times = timed((time.as_nanos() / u128::from(first)).clamp(5, 20_000) as usize);
+    [times[0], times[times.len() / 2]].map(|time| time as f64 / run as f64)
+}
+
+/// Prints the row of a call, where it is asked for.
+fn row(asked: &Asked, name: &str, operands: &Operands, call: (u32, u32)) {
     if !name.contains(&asked.only) {
         return;
     }
-    let mut times = once(side, variables, asked.time);
-    if let Some(copies) = less {
-        let copies = once(copies, variables, asked.time);
-        times = [0, 1].map(|i| times[i] - copies[i]);
-    }
-    let [best, median] = times.map(|time| time * share * 1e9 / (1u64 << variables) as f64);
+    let variables = operands.variables();
+    let [best, median] = once(operands, call, asked.time).map(|time| time / (1u64 << variables) as f64);
     println!("{name:<42} w={WIDTH}  n={variables:<2} {best:9.4} {median:9.4} ns/elem");
 }
 
 /// Prints the rows of tables of so many variables.
 fn calls(asked: &Asked, variables: usize) {
-    let entries = words(4 << variables, 1);
-    let (point, part) = (words(4 * variables, 2), words(4 * (variables / 2), 3));
-    let of = |number| call(&entries, &point, &part, number);
-    let whole = |name: &str, number| row(asked, name, variables, &of(number), None, 1.0);
-    whole("new_from_point EF", 0);
-    whole("eval_base F at EF", 1);
-    whole("SplitEq::eval_base F at EF (packed)", 7);
-    whole("compress_prefix F at EF (n/2)", 5);
-    whole("compress_suffix F at EF (n/2)", 6);
-    whole("eval_ext EF", 2);
-    // Folds of two tables on copies of both, and the copies.
-    let (folds, copies) = (rounds(&entries, &point, &point, 3), rounds(&entries, &point, &point, 2));
-    row(asked, "fix_prefix_var_mut EF at EF", variables, &folds, Some(&copies), 0.5);
-    for points in [1, 4, 16] {
-        let (rows, scalars) = (words(4 * variables * points, 4), words(4 * points, 5));
-        let side = batch(&rows, &scalars, variables);
-        row(asked, &format!("eval_eq_batch EF, {points} points"), variables, &side, None, 1.0);
+    let mut operands = Operands {
+        entries: words(4 << variables, 1),
+        point: words(4 * variables, 2),
+        columns: Vec::new(),
+        scalars: words(4, 3),
+    };
+    for (name, call) in CALLS {
+        if !name.contains("batch") {
+            row(asked, name, &operands, call);
+        }
+    }
+    for name in ["eval_eq_batch EF", "eval_eq_base_batch F to EF"] {
+        for points in [1, 4, 16] {
+            operands.columns = words(4 * variables * points, 4);
+            operands.scalars = words(4 * points, 5);
+            row(asked, &format!("{name}, {points} points"), &operands, call(name));
+        }
     }
 }
 
 /// Prints all rows that are asked for.
 pub fn print(asked: &Asked) {
+    keep_blocks();
     for variables in &asked.variables {
         calls(asked, *variables);
     }

@@ -5,11 +5,25 @@
 //! `mlu_sumcheck`; nothing stands on it.
 #![tactic(auto)]
 
-mod calls;
+mod batches;
+mod case;
+mod clock;
+mod compressions;
+mod folds;
+mod in_place;
+mod kinds;
+mod packed;
 mod rounds;
+mod sequences;
+mod splits;
+mod tables;
+mod timed;
+mod values;
 
-use crate::calls::{Case, repeat_batch, repeat_call, repeat_split};
+use crate::case::Case;
+use crate::kinds::time_kind;
 use crate::rounds::{repeat_rounds, tables_of};
+use crate::timed::Asked;
 use mlu_ext::QuarticExtension;
 use mlu_lanes::{BabyBear, Lanes};
 use mlu_ring::place_by_place::{multiply_each, sub_each};
@@ -138,72 +152,59 @@ fn write(out: &mut [u32], answer: Result<Extension, AllocError>) -> bool {
     true
 }
 
-/// The tables and the points that the words stand for: four words a coefficient of the extension,
-/// and the first words of `entries` for the table over the base.
-fn case(
+/// The tables and the points that the words stand for: four words a coefficient of the extension, and
+/// of those of `entries`, `point` and `columns` the first quarter over the base.
+fn case_of(
     alloc: Global,
     entries: &[u32],
     point: &[u32],
-    part: &[u32],
+    columns: &[u32],
+    scalars: &[u32],
 ) -> Result<Case<Element, Extension>, AllocError> {
     let base = elements(alloc, &entries[..entries.len() / 4])?;
     let ext = extensions(alloc, entries)?;
+    let scalars = extensions(alloc, scalars)?;
+    let Some(scale) = scalars.first() else {
+        return Err(AllocError);
+    };
     if !base.len().is_power_of_two() || !ext.len().is_power_of_two() {
         return Err(AllocError);
     }
-    let point = Point::new(extensions(alloc, point)?);
-    let scale = Extension::ONE;
+    let scale = *scale;
     Ok(Case {
         base: Poly::new(base),
         ext: Poly::new(ext),
-        part: Point::new(extensions(alloc, part)?),
-        point,
+        base_point: Point::new(elements(alloc, &point[..point.len() / 4])?),
+        point: Point::new(extensions(alloc, point)?),
+        base_columns: elements(alloc, &columns[..columns.len() / 4])?,
+        columns: extensions(alloc, columns)?,
+        scalars,
+        base_scale: scale.c0,
         scale,
     })
 }
 
-/// Repeats the call with this number. Gives false where memory is refused or the sizes differ.
+/// Times the call with this number of this kind, made so many times for each of the times, in
+/// nanoseconds of processor time without what comes before the calls, and writes the sum of an entry of
+/// what each call gives. Gives false where memory is refused or the sizes differ.
 #[unsafe(no_mangle)]
 pub extern "C" fn mlu_bench_call(
     alloc: Global,
     out: &mut [u32],
+    times: &mut [u64],
     entries: &[u32],
     point: &[u32],
-    part: &[u32],
+    columns: &[u32],
+    scalars: &[u32],
+    kind: u32,
     call: u32,
     rounds: usize,
 ) -> bool {
-    let Ok(case) = case(alloc, entries, point, part) else {
+    let Ok(case) = case_of(alloc, entries, point, columns, scalars) else {
         return false;
     };
-    let answer = match call {
-        7 => repeat_split(alloc, &case, rounds),
-        _ => repeat_call(alloc, &case, call, rounds),
-    };
-    write(out, answer)
-}
-
-/// Repeats a batch of tables, of points in the columns of `rows`.
-#[unsafe(no_mangle)]
-pub extern "C" fn mlu_bench_batch(
-    alloc: Global,
-    out: &mut [u32],
-    rows: &[u32],
-    scalars: &[u32],
-    variables: usize,
-    rounds: usize,
-) -> bool {
-    let (Ok(rows), Ok(scalars)) = (extensions(alloc, rows), extensions(alloc, scalars)) else {
-        return false;
-    };
-    let answer = repeat_batch::<Element, _>(
-        alloc,
-        rows.as_slice(),
-        scalars.as_slice(),
-        variables,
-        rounds,
-    );
-    write(out, answer)
+    let asked = Asked { call, rounds };
+    write(out, time_kind(alloc, &case, kind, asked, times))
 }
 
 /// Repeats the call of sumcheck with this number, on a table, the weights of a point and

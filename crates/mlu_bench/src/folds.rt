@@ -1,0 +1,34 @@
+//! Folds of a table to a new one.
+
+use crate::case::first;
+use crate::timed::Calls;
+use mlu_ring::{Additive, Algebra};
+use multilinear_util::poly::Poly;
+use std::alloc::{AllocError, Global};
+
+/// The table with its first (0) or its last (1) variable at `r`.
+#[derive(Drop)]
+pub struct FoldCalls<'a, F: Additive, EF: Algebra<F>> {
+    pub table: &'a Poly<F>,
+    pub r: EF,
+}
+
+impl<F: Additive, EF: Algebra<F>> Calls for FoldCalls<'_, F, EF> {
+    type Input = ();
+    type Entry = EF;
+
+    fn input(&self, _alloc: Global, _call: u32) -> Result<(), AllocError> {
+        Ok(())
+    }
+
+    fn answer(&mut self, alloc: Global, call: u32, _input: ()) -> Result<EF, AllocError> {
+        if self.table.num_evals() < 2 {
+            return Err(AllocError);
+        }
+        let folded = match call {
+            0 => self.table.fix_prefix_var(alloc, self.r)?,
+            _ => self.table.fix_suffix_var(alloc, self.r)?,
+        };
+        Ok(first(folded.as_slice()))
+    }
+}
