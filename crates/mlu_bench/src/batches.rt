@@ -9,13 +9,13 @@ use std::alloc::{AllocError, Global};
 /// The sum of the tables of all points, each times its scalar, at points of the extension (0) or of the
 /// base (1).
 #[derive(Drop)]
-pub struct BatchCalls<'a, F: Field + Drop, EF: ExtensionField<F> + Drop> {
+pub struct BatchCalls<'a, F: Field, EF: ExtensionField<F>> {
     case: &'a Case<F, EF>,
     variables: usize,
     out: Vec<EF>,
 }
 
-impl<'a, F: Field + Drop, EF: ExtensionField<F> + Drop> BatchCalls<'a, F, EF> {
+impl<'a, F: Field, EF: ExtensionField<F>> BatchCalls<'a, F, EF> {
     /// The calls, into a table that is made once.
     pub fn new(alloc: Global, case: &'a Case<F, EF>) -> Result<Self, AllocError> {
         Ok(BatchCalls {
@@ -66,8 +66,9 @@ fn base_batch<F: Field, EF: ExtensionField<F>>(
     eval_eq_base_batch::<F, EF, false>(alloc, evals, out, scalars)
 }
 
-impl<F: Field + Drop, EF: ExtensionField<F> + Drop> Calls for BatchCalls<'_, F, EF> {
+impl<F: Field, EF: ExtensionField<F>> Calls for BatchCalls<'_, F, EF> {
     type Input = ();
+
     type Entry = EF;
 
     fn input(&self, _alloc: Global, _call: u32) -> Result<(), AllocError> {
@@ -80,7 +81,13 @@ impl<F: Field + Drop, EF: ExtensionField<F> + Drop> Calls for BatchCalls<'_, F, 
         if call == 0 {
             batch::<F, EF>(alloc, case.columns.as_slice(), scalars, self.variables, out)?;
         } else {
-            base_batch(alloc, case.base_columns.as_slice(), scalars, self.variables, out)?;
+            base_batch(
+                alloc,
+                case.base_columns.as_slice(),
+                scalars,
+                self.variables,
+                out,
+            )?;
         }
         Ok(first(self.out.as_slice()))
     }

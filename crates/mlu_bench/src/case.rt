@@ -8,7 +8,7 @@ use multilinear_util::poly::Poly;
 /// variables each, and a scale; and for batches the coordinates of several points, in columns, with a
 /// scalar for each point.
 #[derive(Drop)]
-pub struct Case<F: Field + Drop, EF: ExtensionField<F> + Drop> {
+pub struct Case<F: Field, EF: ExtensionField<F>> {
     pub base: Poly<F>,
     pub ext: Poly<EF>,
     pub base_point: Point<F>,

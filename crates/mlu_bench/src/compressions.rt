@@ -11,7 +11,7 @@ use std::alloc::{AllocError, Global};
 /// The first variables at the first half of the coordinates (0), packed (1), or by a split table moved
 /// up by one row (3); the last ones at the others (2), or so moved (4).
 #[derive(Drop)]
-pub struct CompressionCalls<'a, F: Field + Drop, EF: ExtensionField<F> + Drop> {
+pub struct CompressionCalls<'a, F: Field, EF: ExtensionField<F>> {
     case: &'a Case<F, EF>,
     low: Point<EF>,
     high: Point<EF>,
@@ -19,7 +19,7 @@ pub struct CompressionCalls<'a, F: Field + Drop, EF: ExtensionField<F> + Drop> {
     high_split: SplitEq<F, EF>,
 }
 
-impl<'a, F: Field + Drop, EF: ExtensionField<F> + Drop> CompressionCalls<'a, F, EF> {
+impl<'a, F: Field, EF: ExtensionField<F>> CompressionCalls<'a, F, EF> {
     /// The calls, over split tables that are made once.
     pub fn new(alloc: Global, case: &'a Case<F, EF>) -> Result<Self, AllocError> {
         let half = case.point.num_variables() / 2;
@@ -39,8 +39,15 @@ impl<'a, F: Field + Drop, EF: ExtensionField<F> + Drop> CompressionCalls<'a, F, 
     }
 }
 
-/// Whether tables of so many variables, for each of some lanes, have no more than so many entries.
-fn are_within(variables: usize, lanes: usize, entries: usize) -> bool
+/// Whether the table of so many variables has at most so many entries.
+fn is_within(variables: usize, entries: usize) -> bool
+    ensures { IsTrue result → 2 ^ variables ≤ entries }
+{
+    variables < 32 && 1 << variables <= entries
+}
+
+/// Whether it has so many where each of its entries counts for each of the lanes.
+fn is_within_lanes(variables: usize, lanes: usize, entries: usize) -> bool
     ensures { IsTrue result → 2 ^ variables * lanes ≤ entries }
 {
     if variables >= 32 {
@@ -52,8 +59,9 @@ fn are_within(variables: usize, lanes: usize, entries: usize) -> bool
     }
 }
 
-impl<F: Field + Drop, EF: ExtensionField<F> + Drop> Calls for CompressionCalls<'_, F, EF> {
+impl<F: Field, EF: ExtensionField<F>> Calls for CompressionCalls<'_, F, EF> {
     type Input = ();
+
     type Entry = EF;
 
     fn input(&self, _alloc: Global, _call: u32) -> Result<(), AllocError> {
@@ -64,11 +72,11 @@ impl<F: Field + Drop, EF: ExtensionField<F> + Drop> Calls for CompressionCalls<'
         let (base, scale) = (&self.case.base, self.case.scale);
         let entries = base.num_evals();
         let width = <F::Packing as PackedValue>::WIDTH;
-        if !are_within(self.low.num_variables(), 1, entries)
-            || !are_within(self.low.num_variables(), width, entries)
-            || !are_within(self.high.num_variables(), 1, entries)
-            || !are_within(self.low_split.num_variables(), 1, entries)
-            || !are_within(self.high_split.num_variables(), 1, entries)
+        if !is_within(self.low.num_variables(), entries)
+            || !is_within_lanes(self.low.num_variables(), width, entries)
+            || !is_within(self.high.num_variables(), entries)
+            || !is_within(self.low_split.num_variables(), entries)
+            || !is_within(self.high_split.num_variables(), entries)
         {
             return Err(AllocError);
         }
@@ -79,8 +87,12 @@ impl<F: Field + Drop, EF: ExtensionField<F> + Drop> Calls for CompressionCalls<'
         let table = match call {
             0 => base.compress_prefix(alloc, &self.low, scale)?,
             2 => base.compress_suffix(alloc, &self.high, scale)?,
-            3 => self.low_split.compress_prefix_shifted(alloc, base.as_view())?,
-            _ => self.high_split.compress_suffix_shifted(alloc, base.as_view())?,
+            3 => self
+                .low_split
+                .compress_prefix_shifted(alloc, base.as_view())?,
+            _ => self
+                .high_split
+                .compress_suffix_shifted(alloc, base.as_view())?,
         };
         Ok(first(table.as_slice()))
     }

@@ -15,6 +15,7 @@ pub struct FoldCalls<'a, F: Additive, EF: Algebra<F>> {
 
 impl<F: Additive, EF: Algebra<F>> Calls for FoldCalls<'_, F, EF> {
     type Input = ();
+
     type Entry = EF;
 
     fn input(&self, _alloc: Global, _call: u32) -> Result<(), AllocError> {

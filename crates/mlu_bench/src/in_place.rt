@@ -9,7 +9,7 @@ use std::alloc::{AllocError, Global};
 /// The table with its first (0) or its last (1) variable at `r`, with its first as coefficients (2), and
 /// with its first variables at the challenges, one after the other (3).
 #[derive(Drop)]
-pub struct InPlaceCalls<'a, F: Algebra<R> + Drop, R: Additive> {
+pub struct InPlaceCalls<'a, F: Algebra<R>, R: Additive> {
     pub table: &'a Poly<F>,
     pub challenges: &'a [R],
     pub r: R,
@@ -25,8 +25,9 @@ pub fn fold_in_turn<F: Algebra<R>, R: Additive>(table: &mut Poly<F>, challenges:
     }
 }
 
-impl<F: Algebra<R> + Drop, R: Additive> Calls for InPlaceCalls<'_, F, R> {
+impl<F: Algebra<R>, R: Additive> Calls for InPlaceCalls<'_, F, R> {
     type Input = Poly<F>;
+
     type Entry = F;
 
     fn input(&self, alloc: Global, _call: u32) -> Result<Poly<F>, AllocError> {

@@ -1,7 +1,7 @@
 //! The calls of all kinds.
 
 use crate::batches::BatchCalls;
-use crate::case::{Case, first_lane};
+use crate::case::Case;
 use crate::compressions::CompressionCalls;
 use crate::folds::FoldCalls;
 use crate::in_place::InPlaceCalls;
@@ -11,7 +11,7 @@ use crate::splits::SplitCalls;
 use crate::tables::TableCalls;
 use crate::timed::{Asked, time};
 use crate::values::ValueCalls;
-use mlu_ring::{Algebra, ExtensionField, Field, PackedValue};
+use mlu_ring::{Algebra, ExtensionField, Field, PackedFieldExtension, PackedValue};
 use std::alloc::{AllocError, Global};
 
 /// Times the calls of a kind: those that give elements of the base (0 to 2), packed ones (3, 4), folds
@@ -25,18 +25,43 @@ pub fn time_kind<F, EF>(
     times: &mut [u64],
 ) -> Result<EF, AllocError>
 where
-    F: ExtensionField<F> + Drop,
-    EF: ExtensionField<F> + Algebra<EF> + Drop,
+    F: ExtensionField<F>,
+    EF: ExtensionField<F> + Algebra<EF>,
 {
     let r = case.scale;
     match kind {
         0..=2 => Ok(EF::from_base(time_base(alloc, case, kind, asked, times)?)),
         3 | 4 => time_packed(alloc, case, kind, asked, times),
-        5 => time(alloc, FoldCalls { table: &case.base, r }, asked, times),
-        6 => time(alloc, FoldCalls { table: &case.ext, r }, asked, times),
+        5 => time(
+            alloc,
+            FoldCalls {
+                table: &case.base,
+                r,
+            },
+            asked,
+            times,
+        ),
+        6 => time(
+            alloc,
+            FoldCalls {
+                table: &case.ext,
+                r,
+            },
+            asked,
+            times,
+        ),
         7 => {
             let (table, challenges) = (&case.ext, case.point.as_slice());
-            time(alloc, InPlaceCalls { table, challenges, r }, asked, times)
+            time(
+                alloc,
+                InPlaceCalls {
+                    table,
+                    challenges,
+                    r,
+                },
+                asked,
+                times,
+            )
         }
         8 => {
             let (point, scale) = (&case.point, r);
@@ -59,8 +84,8 @@ fn time_base<F, EF>(
     times: &mut [u64],
 ) -> Result<F, AllocError>
 where
-    F: ExtensionField<F> + Drop,
-    EF: ExtensionField<F> + Drop,
+    F: ExtensionField<F>,
+    EF: ExtensionField<F>,
 {
     let r = case.base_scale;
     match kind {
@@ -68,10 +93,27 @@ where
             let (point, scale) = (&case.base_point, r);
             time(alloc, TableCalls { point, scale }, asked, times)
         }
-        1 => time(alloc, FoldCalls { table: &case.base, r }, asked, times),
+        1 => time(
+            alloc,
+            FoldCalls {
+                table: &case.base,
+                r,
+            },
+            asked,
+            times,
+        ),
         _ => {
             let (table, challenges) = (&case.base, case.base_point.as_slice());
-            time(alloc, InPlaceCalls { table, challenges, r }, asked, times)
+            time(
+                alloc,
+                InPlaceCalls {
+                    table,
+                    challenges,
+                    r,
+                },
+                asked,
+                times,
+            )
         }
     }
 }
@@ -85,10 +127,11 @@ fn time_packed<F, EF>(
     times: &mut [u64],
 ) -> Result<EF, AllocError>
 where
-    F: Field + Drop,
-    EF: ExtensionField<F> + Drop,
+    F: Field,
+    EF: ExtensionField<F>,
 {
-    if case.ext.num_evals() < <F::Packing as PackedValue>::WIDTH {
+    let width = <F::Packing as PackedValue>::WIDTH;
+    if width == 0 || case.ext.num_evals() < width {
         return Err(AllocError);
     }
     let packed = case.ext.pack::<F, EF>(alloc)?;
@@ -97,6 +140,15 @@ where
         return time(alloc, PackedCalls { case, packed }, asked, times);
     }
     let (table, challenges, r) = (&packed, case.point.as_slice(), case.scale);
-    let sum = time(alloc, InPlaceCalls { table, challenges, r }, asked, times)?;
-    Ok(first_lane::<F, EF>(&[sum]))
+    let sum = time(
+        alloc,
+        InPlaceCalls {
+            table,
+            challenges,
+            r,
+        },
+        asked,
+        times,
+    )?;
+    Ok(sum.ext_lane(0))
 }

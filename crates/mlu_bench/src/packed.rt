@@ -9,13 +9,14 @@ use std::alloc::{AllocError, Global};
 /// The table over the extension packed (0), unpacked (1) and its packed form evaluated (2); the packed
 /// table of the scaled weights of a point (3), and of a fold of the table over the base (4).
 #[derive(Drop)]
-pub struct PackedCalls<'a, F: Field + Drop, EF: ExtensionField<F> + Drop> {
+pub struct PackedCalls<'a, F: Field, EF: ExtensionField<F>> {
     pub case: &'a Case<F, EF>,
     pub packed: &'a Poly<EF::ExtensionPacking>,
 }
 
-impl<F: Field + Drop, EF: ExtensionField<F> + Drop> Calls for PackedCalls<'_, F, EF> {
+impl<F: Field, EF: ExtensionField<F>> Calls for PackedCalls<'_, F, EF> {
     type Input = ();
+
     type Entry = EF;
 
     fn input(&self, _alloc: Global, _call: u32) -> Result<(), AllocError> {
@@ -29,6 +30,7 @@ impl<F: Field + Drop, EF: ExtensionField<F> + Drop> Calls for PackedCalls<'_, F,
             || case.ext.num_evals() < width
             || packed.num_evals().checked_mul(width) != Some(case.ext.num_evals())
             || case.ext.num_variables() != case.point.num_variables()
+            || case.point.num_variables() >= 32
             || case.point.num_variables() < <F::Packing as PackedValue>::LOG_WIDTH
         {
             return Err(AllocError);

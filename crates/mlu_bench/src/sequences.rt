@@ -9,14 +9,13 @@ use std::alloc::{AllocError, Global};
 /// The folds at each coordinate of the point, to elements (0), or to packed elements until one of them is
 /// left (1).
 #[derive(Drop)]
-pub struct SequenceCalls<'a, F: Field + Drop, EF: ExtensionField<F> + Drop> {
+pub struct SequenceCalls<'a, F: Field, EF: ExtensionField<F>> {
     pub case: &'a Case<F, EF>,
 }
 
-impl<F: Field + Drop, EF: ExtensionField<F> + Algebra<EF> + Drop> Calls
-    for SequenceCalls<'_, F, EF>
-{
+impl<F: Field, EF: ExtensionField<F> + Algebra<EF>> Calls for SequenceCalls<'_, F, EF> {
     type Input = ();
+
     type Entry = EF;
 
     fn input(&self, _alloc: Global, _call: u32) -> Result<(), AllocError> {

@@ -8,14 +8,14 @@ use std::alloc::{AllocError, Global};
 
 /// The split table of the point added to a table (0), written out (1), and added to a packed table (2).
 #[derive(Drop)]
-pub struct SplitCalls<'a, F: Field + Drop, EF: ExtensionField<F> + Drop> {
+pub struct SplitCalls<'a, F: Field, EF: ExtensionField<F>> {
     case: &'a Case<F, EF>,
     split: SplitEq<F, EF>,
     out: Vec<EF>,
     packed: Vec<EF::ExtensionPacking>,
 }
 
-impl<'a, F: Field + Drop, EF: ExtensionField<F> + Drop> SplitCalls<'a, F, EF> {
+impl<'a, F: Field, EF: ExtensionField<F>> SplitCalls<'a, F, EF> {
     /// The calls, over a split table and tables of zeros that are made once.
     pub fn new(alloc: Global, case: &'a Case<F, EF>) -> Result<Self, AllocError> {
         if case.point.num_variables() >= 32 {
@@ -35,8 +35,9 @@ impl<'a, F: Field + Drop, EF: ExtensionField<F> + Drop> SplitCalls<'a, F, EF> {
     }
 }
 
-impl<F: Field + Drop, EF: ExtensionField<F> + Drop> Calls for SplitCalls<'_, F, EF> {
+impl<F: Field, EF: ExtensionField<F>> Calls for SplitCalls<'_, F, EF> {
     type Input = ();
+
     type Entry = EF;
 
     fn input(&self, _alloc: Global, _call: u32) -> Result<(), AllocError> {

@@ -17,6 +17,7 @@ pub struct TableCalls<'a, R: Field> {
 
 impl<R: Field> Calls for TableCalls<'_, R> {
     type Input = ();
+
     type Entry = R;
 
     fn input(&self, _alloc: Global, _call: u32) -> Result<(), AllocError> {

@@ -10,13 +10,13 @@ use std::alloc::{AllocError, Global};
 /// (2) and by an unpacked (3) split table, and with each weight moved to the next row (4); and of one
 /// over the extension (5).
 #[derive(Drop)]
-pub struct ValueCalls<'a, F: Field + Drop, EF: ExtensionField<F> + Drop> {
+pub struct ValueCalls<'a, F: Field, EF: ExtensionField<F>> {
     case: &'a Case<F, EF>,
     packed: SplitEq<F, EF>,
     unpacked: SplitEq<F, EF>,
 }
 
-impl<'a, F: Field + Drop, EF: ExtensionField<F> + Drop> ValueCalls<'a, F, EF> {
+impl<'a, F: Field, EF: ExtensionField<F>> ValueCalls<'a, F, EF> {
     /// The calls, over split tables that are made once.
     pub fn new(alloc: Global, case: &'a Case<F, EF>) -> Result<Self, AllocError> {
         if case.point.num_variables() >= 32 {
@@ -30,8 +30,9 @@ impl<'a, F: Field + Drop, EF: ExtensionField<F> + Drop> ValueCalls<'a, F, EF> {
     }
 }
 
-impl<F: ExtensionField<F> + Drop, EF: ExtensionField<F> + Drop> Calls for ValueCalls<'_, F, EF> {
+impl<F: ExtensionField<F>, EF: ExtensionField<F>> Calls for ValueCalls<'_, F, EF> {
     type Input = ();
+
     type Entry = EF;
 
     fn input(&self, _alloc: Global, _call: u32) -> Result<(), AllocError> {

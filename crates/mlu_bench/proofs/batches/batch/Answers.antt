@@ -1,8 +1,7 @@
 use Rattle.std.proofs.Common.{rules, length}
-use Rattle.std.proofs.lemmas.List.{length-replicate}
 use Rattle.mlu_ring.proofs.Rows.{rows_of-multiple}
 use Rattle.mlu_point.proofs.Sizes.{places-of_rows}
-use Rattle.mlu_bench.proofs.calls.batch.Goals as goal
+use Rattle.mlu_bench.proofs.batches.batch.Goals as goal
 
 pub new-evals-requires : goal.new-evals-requires
 new-evals-requires g c = rows_of-multiple _ c.args.variables (length c.args.scalars.now) (search rules)
@@ -10,5 +9,5 @@ new-evals-requires g c = rows_of-multiple _ c.args.variables (length c.args.scal
 pub eval_eq_batch-requires : goal.eval_eq_batch-requires
 eval_eq_batch-requires g c = record {
   width = search rules;
-  size = places-of_rows _ _ _ c.args.variables (length c.args.scalars.now) (search rules) (search rules) (search (rules, length-replicate));
+  size = places-of_rows _ _ _ c.args.variables (length c.args.scalars.now) (search rules) (search rules) (search rules);
 }
