@@ -67,15 +67,9 @@ fn base_batch<F: Field, EF: ExtensionField<F>>(
 }
 
 impl<F: Field, EF: ExtensionField<F>> Calls for BatchCalls<'_, F, EF> {
-    type Input = ();
-
     type Entry = EF;
 
-    fn input(&self, _alloc: Global, _call: u32) -> Result<(), AllocError> {
-        Ok(())
-    }
-
-    fn answer(&mut self, alloc: Global, call: u32, _input: ()) -> Result<EF, AllocError> {
+    fn answer(&mut self, alloc: Global, call: u32) -> Result<EF, AllocError> {
         let (case, out) = (self.case, self.out.as_mut_slice());
         let scalars = case.scalars.as_slice();
         if call == 0 {

@@ -60,15 +60,9 @@ fn is_within_lanes(variables: usize, lanes: usize, entries: usize) -> bool
 }
 
 impl<F: Field, EF: ExtensionField<F>> Calls for CompressionCalls<'_, F, EF> {
-    type Input = ();
-
     type Entry = EF;
 
-    fn input(&self, _alloc: Global, _call: u32) -> Result<(), AllocError> {
-        Ok(())
-    }
-
-    fn answer(&mut self, alloc: Global, call: u32, _input: ()) -> Result<EF, AllocError> {
+    fn answer(&mut self, alloc: Global, call: u32) -> Result<EF, AllocError> {
         let (base, scale) = (&self.case.base, self.case.scale);
         let entries = base.num_evals();
         let width = <F::Packing as PackedValue>::WIDTH;

@@ -14,15 +14,9 @@ pub struct FoldCalls<'a, F: Additive, EF: Algebra<F>> {
 }
 
 impl<F: Additive, EF: Algebra<F>> Calls for FoldCalls<'_, F, EF> {
-    type Input = ();
-
     type Entry = EF;
 
-    fn input(&self, _alloc: Global, _call: u32) -> Result<(), AllocError> {
-        Ok(())
-    }
-
-    fn answer(&mut self, alloc: Global, call: u32, _input: ()) -> Result<EF, AllocError> {
+    fn answer(&mut self, alloc: Global, call: u32) -> Result<EF, AllocError> {
         if self.table.num_evals() < 2 {
             return Err(AllocError);
         }

@@ -4,7 +4,7 @@ use crate::batches::BatchCalls;
 use crate::case::Case;
 use crate::compressions::CompressionCalls;
 use crate::folds::FoldCalls;
-use crate::in_place::InPlaceCalls;
+use crate::in_place::time_on_copies;
 use crate::packed::PackedCalls;
 use crate::sequences::SequenceCalls;
 use crate::splits::SplitCalls;
@@ -12,60 +12,34 @@ use crate::tables::TableCalls;
 use crate::timed::{Asked, time};
 use crate::values::ValueCalls;
 use mlu_ring::{Algebra, ExtensionField, Field, PackedFieldExtension, PackedValue};
+use multilinear_util::point::Point;
+use multilinear_util::poly::Poly;
 use std::alloc::{AllocError, Global};
 
-/// Times the calls of a kind: those that give elements of the base (0 to 2), packed ones (3, 4), folds
-/// of a table over the base (5) and over the extension (6), in place (7), equality tables (8), values
-/// (9), compressions (10), sequences of folds (11), split tables (12) and batches (others).
-pub fn time_kind<F, EF>(
+/// Times the calls of a kind: those of one ring (0 to 2 over the base, 3 to 5 over the extension), those on
+/// packed elements (6, 7), folds of a table over the base at the extension (8), values (9), compressions
+/// (10), sequences of folds (11), split tables (12), and batches.
+pub fn time_kind<F: ExtensionField<F>, EF: ExtensionField<F> + Algebra<EF>>(
     alloc: Global,
     case: &Case<F, EF>,
     kind: u32,
     asked: Asked,
     times: &mut [u64],
-) -> Result<EF, AllocError>
-where
-    F: ExtensionField<F>,
-    EF: ExtensionField<F> + Algebra<EF>,
-{
-    let r = case.scale;
+) -> Result<EF, AllocError> {
     match kind {
-        0..=2 => Ok(EF::from_base(time_base(alloc, case, kind, asked, times)?)),
-        3 | 4 => time_packed(alloc, case, kind, asked, times),
-        5 => time(
-            alloc,
-            FoldCalls {
-                table: &case.base,
-                r,
-            },
-            asked,
-            times,
-        ),
-        6 => time(
-            alloc,
-            FoldCalls {
-                table: &case.ext,
-                r,
-            },
-            asked,
-            times,
-        ),
-        7 => {
-            let (table, challenges) = (&case.ext, case.point.as_slice());
-            time(
-                alloc,
-                InPlaceCalls {
-                    table,
-                    challenges,
-                    r,
-                },
-                asked,
-                times,
-            )
+        0..=2 => {
+            let operands = (&case.base, &case.base_point, case.base_scale);
+            let sum = time_ring(alloc, operands, kind, asked, times)?;
+            Ok(EF::from_base(sum))
         }
+        3..=5 => {
+            let operands = (&case.ext, &case.point, case.scale);
+            time_ring(alloc, operands, kind - 3, asked, times)
+        }
+        6 | 7 => time_packed(alloc, case, kind, asked, times),
         8 => {
-            let (point, scale) = (&case.point, r);
-            time(alloc, TableCalls { point, scale }, asked, times)
+            let (table, r) = (&case.base, case.scale);
+            time(alloc, FoldCalls { table, r }, asked, times)
         }
         9 => time(alloc, ValueCalls::new(alloc, case)?, asked, times),
         10 => time(alloc, CompressionCalls::new(alloc, case)?, asked, times),
@@ -75,80 +49,40 @@ where
     }
 }
 
-/// Times calls that give elements of the base: equality tables (0), folds (1), and folds in place (2).
-fn time_base<F, EF>(
+/// Times calls on a table and a point of one ring: equality tables (0), folds to a new table (1), and in
+/// place (2).
+fn time_ring<R: Field + Algebra<R>>(
     alloc: Global,
-    case: &Case<F, EF>,
+    (table, point, r): (&Poly<R>, &Point<R>, R),
     kind: u32,
     asked: Asked,
     times: &mut [u64],
-) -> Result<F, AllocError>
-where
-    F: ExtensionField<F>,
-    EF: ExtensionField<F>,
-{
-    let r = case.base_scale;
+) -> Result<R, AllocError> {
     match kind {
-        0 => {
-            let (point, scale) = (&case.base_point, r);
-            time(alloc, TableCalls { point, scale }, asked, times)
-        }
-        1 => time(
-            alloc,
-            FoldCalls {
-                table: &case.base,
-                r,
-            },
-            asked,
-            times,
-        ),
-        _ => {
-            let (table, challenges) = (&case.base, case.base_point.as_slice());
-            time(
-                alloc,
-                InPlaceCalls {
-                    table,
-                    challenges,
-                    r,
-                },
-                asked,
-                times,
-            )
-        }
+        0 => time(alloc, TableCalls { point, r }, asked, times),
+        1 => time(alloc, FoldCalls { table, r }, asked, times),
+        _ => time_on_copies(alloc, table, point.as_slice(), r, asked, times),
     }
 }
 
-/// Times calls on the packed table over the extension: packed tables (3), and folds in place (4).
-fn time_packed<F, EF>(
+/// Times calls on the packed table over the extension: packed tables (6), and folds in place (7).
+fn time_packed<F: Field, EF: ExtensionField<F>>(
     alloc: Global,
     case: &Case<F, EF>,
     kind: u32,
     asked: Asked,
     times: &mut [u64],
-) -> Result<EF, AllocError>
-where
-    F: Field,
-    EF: ExtensionField<F>,
-{
+) -> Result<EF, AllocError> {
     let width = <F::Packing as PackedValue>::WIDTH;
     if width == 0 || case.ext.num_evals() < width {
         return Err(AllocError);
     }
     let packed = case.ext.pack::<F, EF>(alloc)?;
-    if kind == 3 {
+    if kind == 6 {
         let packed = &packed;
         return time(alloc, PackedCalls { case, packed }, asked, times);
     }
-    let (table, challenges, r) = (&packed, case.point.as_slice(), case.scale);
-    let sum = time(
-        alloc,
-        InPlaceCalls {
-            table,
-            challenges,
-            r,
-        },
-        asked,
-        times,
-    )?;
+    let (challenges, r) = (case.point.as_slice(), case.scale);
+    let sum = time_on_copies(alloc, &packed, challenges, r, asked, times)?;
     Ok(sum.ext_lane(0))
 }

@@ -15,15 +15,9 @@ pub struct PackedCalls<'a, F: Field, EF: ExtensionField<F>> {
 }
 
 impl<F: Field, EF: ExtensionField<F>> Calls for PackedCalls<'_, F, EF> {
-    type Input = ();
-
     type Entry = EF;
 
-    fn input(&self, _alloc: Global, _call: u32) -> Result<(), AllocError> {
-        Ok(())
-    }
-
-    fn answer(&mut self, alloc: Global, call: u32, _input: ()) -> Result<EF, AllocError> {
+    fn answer(&mut self, alloc: Global, call: u32) -> Result<EF, AllocError> {
         let (case, packed) = (self.case, self.packed);
         let width = <F::Packing as PackedValue>::WIDTH;
         if case.base.num_evals() <= width

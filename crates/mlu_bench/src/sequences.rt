@@ -14,15 +14,9 @@ pub struct SequenceCalls<'a, F: Field, EF: ExtensionField<F>> {
 }
 
 impl<F: Field, EF: ExtensionField<F> + Algebra<EF>> Calls for SequenceCalls<'_, F, EF> {
-    type Input = ();
-
     type Entry = EF;
 
-    fn input(&self, _alloc: Global, _call: u32) -> Result<(), AllocError> {
-        Ok(())
-    }
-
-    fn answer(&mut self, alloc: Global, call: u32, _input: ()) -> Result<EF, AllocError> {
+    fn answer(&mut self, alloc: Global, call: u32) -> Result<EF, AllocError> {
         let base = &self.case.base;
         let Some((r, others)) = self.case.point.as_slice().split_first() else {
             return Err(AllocError);

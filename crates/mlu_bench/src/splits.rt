@@ -36,15 +36,9 @@ impl<'a, F: Field, EF: ExtensionField<F>> SplitCalls<'a, F, EF> {
 }
 
 impl<F: Field, EF: ExtensionField<F>> Calls for SplitCalls<'_, F, EF> {
-    type Input = ();
-
     type Entry = EF;
 
-    fn input(&self, _alloc: Global, _call: u32) -> Result<(), AllocError> {
-        Ok(())
-    }
-
-    fn answer(&mut self, alloc: Global, call: u32, _input: ()) -> Result<EF, AllocError> {
+    fn answer(&mut self, alloc: Global, call: u32) -> Result<EF, AllocError> {
         let entries = self.case.ext.num_evals();
         let width = <F::Packing as PackedValue>::WIDTH;
         if self.split.num_variables() != self.case.ext.num_variables()

@@ -7,29 +7,23 @@ use multilinear_util::point::Point;
 use multilinear_util::poly::Poly;
 use std::alloc::{AllocError, Global};
 
-/// The table with coordinate 0 at the highest bit (0), at the lowest (1), and, as a polynomial, that of
-/// the scaled weights (2).
+/// The table with coordinate 0 at the highest bit (0) and at the lowest (1), and the polynomial of the
+/// weights times `r` (2).
 #[derive(Drop)]
 pub struct TableCalls<'a, R: Field> {
     pub point: &'a Point<R>,
-    pub scale: R,
+    pub r: R,
 }
 
 impl<R: Field> Calls for TableCalls<'_, R> {
-    type Input = ();
-
     type Entry = R;
 
-    fn input(&self, _alloc: Global, _call: u32) -> Result<(), AllocError> {
-        Ok(())
-    }
-
-    fn answer(&mut self, alloc: Global, call: u32, _input: ()) -> Result<R, AllocError> {
+    fn answer(&mut self, alloc: Global, call: u32) -> Result<R, AllocError> {
         if self.point.num_variables() >= 32 {
             return Err(AllocError);
         }
         if call == 2 {
-            let table = Poly::new_from_point(alloc, self.point.as_slice(), self.scale)?;
+            let table = Poly::new_from_point(alloc, self.point.as_slice(), self.r)?;
             return Ok(first(table.as_slice()));
         }
         let table = match call {

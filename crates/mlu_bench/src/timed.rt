@@ -1,4 +1,4 @@
-//! Calls of one kind, timed without what makes the inputs that they use up.
+//! Calls of one kind, timed.
 
 use crate::clock::now;
 use mlu_ring::Additive;
@@ -13,22 +13,11 @@ pub struct Asked {
 
 /// Calls of one kind, by their numbers.
 pub trait Calls {
-    /// What a call uses up.
-    type Input: Drop;
-
     /// An entry of what a call gives.
     type Entry: Additive;
 
-    /// What the call with this number is made on.
-    fn input(&self, alloc: Global, call: u32) -> Result<Self::Input, AllocError>;
-
-    /// An entry of what that call gives.
-    fn answer(
-        &mut self,
-        alloc: Global,
-        call: u32,
-        input: Self::Input,
-    ) -> Result<Self::Entry, AllocError>;
+    /// An entry of what the call with this number gives.
+    fn answer(&mut self, alloc: Global, call: u32) -> Result<Self::Entry, AllocError>;
 }
 
 /// Makes the calls that are asked for each of the times, writes their nanoseconds there, and gives the
@@ -42,13 +31,9 @@ pub fn time<C: Calls + Drop>(
     let Asked { call, rounds } = asked;
     let mut sum = C::Entry::ZERO;
     for time in times.iter_mut() {
-        let mut inputs = Vec::new(alloc);
-        for _ in 0..rounds {
-            inputs.push(calls.input(alloc, call)?)?;
-        }
         let start = now();
-        for input in inputs {
-            sum = sum + calls.answer(alloc, call, input)?;
+        for _ in 0..rounds {
+            sum = sum + calls.answer(alloc, call)?;
         }
         *time = now().wrapping_sub(start);
     }

@@ -31,15 +31,9 @@ impl<'a, F: Field, EF: ExtensionField<F>> ValueCalls<'a, F, EF> {
 }
 
 impl<F: ExtensionField<F>, EF: ExtensionField<F>> Calls for ValueCalls<'_, F, EF> {
-    type Input = ();
-
     type Entry = EF;
 
-    fn input(&self, _alloc: Global, _call: u32) -> Result<(), AllocError> {
-        Ok(())
-    }
-
-    fn answer(&mut self, alloc: Global, call: u32, _input: ()) -> Result<EF, AllocError> {
+    fn answer(&mut self, alloc: Global, call: u32) -> Result<EF, AllocError> {
         let case = self.case;
         let variables = case.base.num_variables();
         if case.ext.num_variables() != variables
