@@ -10,8 +10,6 @@ unsafe extern "C" {
     fn mlu_bench_call(
         out: *mut u32,
         out_len: usize,
-        times: *mut u64,
-        times_len: usize,
         entries: *const u32,
         entries_len: usize,
         point: *const u32,
@@ -57,32 +55,19 @@ impl Operands {
         self.point.len() / 4
     }
 
-    /// How often a call is made for one time: short calls in runs, so that the clock does not count.
-    pub fn run(&self) -> usize {
-        1 << 14_usize.saturating_sub(self.variables())
-    }
-
-    /// Makes the call with this kind and number so often for each of the times, and writes the nanoseconds
-    /// of processor time there. The sum of an entry of what each call gives.
-    pub fn time(&self, (kind, call): (u32, u32), rounds: usize, times: &mut [u64]) -> Ext {
-        let mut out = ZERO;
-        let served = unsafe {
-            mlu_bench_call(
-                out.as_mut_ptr(), out.len(), times.as_mut_ptr(), times.len(), self.entries.as_ptr(), self.entries.len(),
-                self.point.as_ptr(), self.point.len(), self.columns.as_ptr(), self.columns.len(),
-                self.scalars.as_ptr(), self.scalars.len(), kind, call, rounds,
-            )
-        };
-        assert!(served);
-        out
-    }
-
-    /// The call with this kind and number, in runs where so many are made.
-    pub fn repeated(&self, call: (u32, u32)) -> Repeated<'_> {
+    /// The call with this kind and number: the sum of an entry of what each gives.
+    pub fn repeated(&self, (kind, call): (u32, u32)) -> Repeated<'_> {
         Box::new(move |rounds| {
-            let run = self.run().min(rounds);
-            assert_eq!(rounds % run, 0);
-            self.time(call, run, &mut vec![0; rounds / run])
+            let mut out = ZERO;
+            let served = unsafe {
+                mlu_bench_call(
+                    out.as_mut_ptr(), out.len(), self.entries.as_ptr(), self.entries.len(), self.point.as_ptr(),
+                    self.point.len(), self.columns.as_ptr(), self.columns.len(), self.scalars.as_ptr(), self.scalars.len(),
+                    kind, call, rounds,
+                )
+            };
+            assert!(served);
+            out
         })
     }
 }

@@ -1,7 +1,8 @@
 //! The library beside plain Rust, in one run: element operations, then calls on tables and points, and
 //! sumcheck.
 //!
-//! Rows are interleaved and the least of many rounds counts: trust the ratios, not the times.
+//! Rows are interleaved and the least of many rounds counts, by the processor time of the thread: trust the
+//! ratios, not the times.
 //!
 //! With `--n`, `--only` or `--time`, the library alone, in rows as the benchmark of the Rust crate prints
 //! them ([`rows`]). With other words, only the calls whose name has each word, or whose number of variables it is:
@@ -10,11 +11,12 @@
 mod library;
 mod plain;
 mod rows;
+mod timing;
 
 use library::{Operands, Repeated, mlu_bench_lanes, mlu_bench_scalar};
 use plain::{Ext, ONE, P, ZERO, add, reduce_once, reduce_product};
 use std::hint::black_box;
-use std::time::Instant;
+use timing::{now, runs, seconds};
 
 /// The same operations as a Rust program would write them, over words.
 #[inline(never)]
@@ -30,9 +32,9 @@ fn plain_operation(out: &mut [u32], b: &[u32], operation: u32, rounds: usize) {
 }
 
 fn nanoseconds(elements: usize, rounds: usize, run: impl FnOnce(usize)) -> f64 {
-    let start = Instant::now();
+    let start = now();
     run(rounds);
-    start.elapsed().as_secs_f64() * 1e9 / (elements * rounds) as f64
+    (now() - start) * 1e9 / (elements * rounds) as f64
 }
 
 fn operations() {
@@ -84,26 +86,50 @@ fn repeated<'a>(call: impl Fn() -> Ext + 'a) -> Repeated<'a> {
     Box::new(move |rounds| (0..rounds).fold(ZERO, |sum, _| add(sum, black_box(call()))))
 }
 
+/// As [`repeated`], on a copy of the table whose first entry then is the next, as the library's side does.
+fn repeated_values<'a, T: Copy>(table: &'a [T], next: fn(T) -> T, value: impl Fn(&[T]) -> Ext + 'a) -> Repeated<'a> {
+    Box::new(move |rounds| {
+        let (mut table, mut sum) = (table.to_vec(), ZERO);
+        for _ in 0..rounds {
+            sum = add(sum, black_box(value(&table)));
+            table[0] = next(table[0]);
+        }
+        sum
+    })
+}
+
+/// Folds of copies of the table, which are made in runs as the library's side makes them.
+fn repeated_folds<'a>(table: &'a [Ext], fold: impl Fn(&mut Vec<Ext>) + 'a) -> Repeated<'a> {
+    let run = 1 << 14_u32.saturating_sub(table.len().ilog2());
+    Box::new(move |rounds| {
+        let mut sum = ZERO;
+        for made in (0..rounds).step_by(run) {
+            for mut copy in black_box(vec![table.to_vec(); run.min(rounds - made)]) {
+                fold(&mut copy);
+                sum = add(sum, black_box(copy[0]));
+            }
+        }
+        sum
+    })
+}
+
 /// Whether the row is asked for: each word of the command line stands in its name or is its size.
 fn is_wanted(name: &str, variables: usize) -> bool {
     std::env::args().skip(1).all(|word| name.contains(&word) || word == variables.to_string())
 }
 
-/// The nanoseconds an entry of one call of each side, without what comes before the first: those of `2 n`
-/// calls less those of `n`.
+/// The nanoseconds an entry of one call of each side.
 fn times(variables: usize, sides: &[Repeated]) -> Vec<f64> {
-    let rounds = ((1 << 19) >> variables).max(2);
-    let mut least = vec![[f64::MAX; 2]; sides.len()];
+    let mut sides: Vec<_> = sides.iter().map(|side| (side, runs(side, 0.005), [f64::MAX; 2])).collect();
     for _ in 0..12 {
-        for (side, least) in sides.iter().zip(&mut least) {
-            for (least, rounds) in least.iter_mut().zip([rounds, 2 * rounds]) {
-                let start = Instant::now();
-                black_box(side(black_box(rounds)));
-                *least = least.min(start.elapsed().as_secs_f64());
+        for (side, rounds, least) in &mut sides {
+            for (least, rounds) in least.iter_mut().zip(*rounds) {
+                *least = least.min(seconds(side, rounds));
             }
         }
     }
-    least.iter().map(|[once, twice]| (twice - once) * 1e9 / (rounds << variables) as f64).collect()
+    let entries = (1u64 << variables) as f64;
+    sides.iter().map(|(_, rounds, least)| timing::nanoseconds(*least, *rounds) / entries).collect()
 }
 
 fn print_row(name: &str, variables: usize, rust: f64, library: f64) {
@@ -128,21 +154,22 @@ fn calls(variables: usize) {
     };
     let library = |name| operands.repeated(rows::call(name));
     let base = &operands.entries[..1 << variables];
+    let next: fn(u32) -> u32 = |x| reduce_once(x + 1);
     let (ext, z) = (extensions(&operands.entries), extensions(&operands.point));
     let r = ONE;
     let halves = z.split_at(z.len() / 2);
     let (left, right) = (plain::table(halves.0, ONE), plain::table(halves.1, ONE));
     row("equality table", variables, [repeated(|| plain::table(&z, ONE)[0]), library("new_from_point EF")]);
-    row("`eval_base`", variables, [repeated(|| plain::eval_base(base, &z)), library("eval_base F at EF")]);
-    row("`eval_ext`", variables, [repeated(|| plain::eval_ext(&ext, &z)), library("eval_ext EF")]);
+    row("`eval_base`", variables, [repeated_values(base, next, |table| plain::eval_base(table, &z)), library("eval_base F at EF")]);
+    row("`eval_ext`", variables, [repeated_values(&ext, |x| add(x, ONE), |table| plain::eval_ext(table, &z)), library("eval_ext EF")]);
     let [prefix, suffix] = ["fix_prefix_var_mut EF at EF", "fix_suffix_var_mut EF at EF"].map(library);
-    row("`fix_prefix_var_mut`, and a copy", variables, [repeated(|| plain::fix_prefix(&ext, r)[0]), prefix]);
-    row("`fix_suffix_var_mut`, and a copy", variables, [repeated(|| plain::fix_suffix(&ext, r)[0]), suffix]);
+    row("`fix_prefix_var_mut`, and a copy", variables, [repeated_folds(&ext, |table| plain::fold(table, r)), prefix]);
+    row("`fix_suffix_var_mut`, and a copy", variables, [repeated_folds(&ext, |table| plain::fold_suffix(table, r)), suffix]);
     let [prefix, suffix] = ["compress_prefix F at EF (n/2)", "compress_suffix F at EF (n/2)"].map(library);
     row("`compress_prefix`, half of the variables", variables, [repeated(|| plain::compress_prefix(base, halves.0, ONE)[0]), prefix]);
     row("`compress_suffix`, half of the variables", variables, [repeated(|| plain::compress_suffix(base, halves.1, ONE)[0]), suffix]);
     let split = library("SplitEq::eval_base F at EF (packed)");
-    row("`SplitEq::eval_base`", variables, [repeated(|| plain::split_value(base, &left, &right)), split]);
+    row("`SplitEq::eval_base`", variables, [repeated_values(base, next, |table| plain::split_value(table, &left, &right)), split]);
 }
 
 fn batches(variables: usize, points: usize) {

@@ -79,6 +79,7 @@ pub fn table(point: &[Ext], first: Ext) -> Vec<Ext> {
     table
 }
 
+/// Sets the first variable.
 pub fn fold(table: &mut Vec<Ext>, r: Ext) {
     let half = table.len() / 2;
     let (low, high) = table.split_at_mut(half);
@@ -112,21 +113,13 @@ pub fn eval_ext(ext: &[Ext], point: &[Ext]) -> Ext {
     value(folded.collect(), &point[1..])
 }
 
-/// A copy with its first variable set.
-pub fn fix_prefix(ext: &[Ext], r: Ext) -> Vec<Ext> {
-    let mut copy = ext.to_vec();
-    fold(&mut copy, r);
-    copy
-}
-
-/// A copy with its last variable set.
-pub fn fix_suffix(ext: &[Ext], r: Ext) -> Vec<Ext> {
-    let mut copy = ext.to_vec();
-    for i in 0..copy.len() / 2 {
-        copy[i] = add(copy[2 * i], mul(r, sub(copy[2 * i + 1], copy[2 * i])));
+/// Sets the last variable.
+pub fn fold_suffix(table: &mut Vec<Ext>, r: Ext) {
+    let half = table.len() / 2;
+    for i in 0..half {
+        table[i] = add(table[2 * i], mul(r, sub(table[2 * i + 1], table[2 * i])));
     }
-    copy.truncate(ext.len() / 2);
-    copy
+    table.truncate(half);
 }
 
 pub fn compress_prefix(base: &[u32], part: &[Ext], first: Ext) -> Vec<Ext> {

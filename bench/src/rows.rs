@@ -3,13 +3,12 @@
 //! `--n 10,16,20 --only TEXT --time SECONDS`: the numbers of variables, the rows whose name holds the text,
 //! and how long each is timed. The two numbers of a row are the least and the median processor time of an
 //! entry of the biggest table that is read or written; a batch counts its outputs once, and folds in
-//! sequence their first table. Copies that a call in place needs are made before and not timed, and freed
-//! blocks of memory are kept for later calls.
+//! sequence their first table. Each is of a longer run less a shorter one, and the copies that a call in place
+//! needs are taken off by such runs of their own. Freed blocks of memory are kept for later calls.
 
-use crate::library::Operands;
+use crate::library::{Operands, Repeated};
+use crate::timing::{nanoseconds, now, runs, seconds};
 use crate::words;
-use std::hint::black_box;
-use std::time::Duration;
 
 /// The lane width of the library's rings.
 const WIDTH: usize = 8;
@@ -69,7 +68,7 @@ pub fn call(name: &str) -> (u32, u32) {
 pub struct Asked {
     variables: Vec<usize>,
     only: String,
-    time: Duration,
+    time: f64,
 }
 
 impl Asked {
@@ -85,7 +84,7 @@ impl Asked {
         Some(Asked {
             variables: variables.map_or(vec![10, 16, 20], |list| list.split(',').map(number).collect()),
             only: only.unwrap_or_default(),
-            time: Duration::from_secs_f64(time.map_or(0.1, |word| word.parse().expect("seconds"))),
+            time: time.map_or(0.1, |word| word.parse().expect("seconds")),
         })
     }
 }
@@ -103,18 +102,27 @@ fn keep_blocks() {
     assert_eq!(set, [1, 1]);
 }
 
-/// The nanoseconds of one call, least and median.
-fn once(operands: &Operands, call: (u32, u32), time: Duration) -> [f64; 2] {
-    let run = operands.run();
-    let timed = |samples| {
-        let mut times = vec![0; samples];
-        black_box(operands.time(call, run, &mut times));
-        times.sort();
-        times
-    };
-    let first = timed(5)[0].max(1);
-    let times = timed((time.as_nanos() / u128::from(first)).clamp(5, 20_000) as usize);
-    [times[0], times[times.len() / 2]].map(|time| time as f64 / run as f64)
+/// The copies alone, of a call on copies of a table.
+fn copies_of((kind, _): (u32, u32)) -> Option<(u32, u32)> {
+    const COPIES: u32 = 4;
+    matches!(kind, 2 | 5 | 7).then_some((kind, COPIES))
+}
+
+/// The nanoseconds of one call, least and median, without its copies. A fifth of the time is for the calls of
+/// the shorter run; the runs of the call and of the copies are made in turns, three times each at least.
+fn once(call: &Repeated, copies: Option<&Repeated>, time: f64) -> [f64; 2] {
+    let rounds = runs(call, time / 5.0);
+    let alone = |[call, copies]: [[f64; 2]; 2]| nanoseconds(call, rounds) - nanoseconds(copies, rounds);
+    let (mut least, mut all, start) = ([[f64::MAX; 2]; 2], Vec::new(), now());
+    while all.len() < 3 || now() - start < time {
+        let times = [Some(call), copies].map(|side| rounds.map(|rounds| side.map_or(0.0, |side| seconds(side, rounds))));
+        for (least, time) in least.iter_mut().flatten().zip(times.iter().flatten()) {
+            *least = least.min(*time);
+        }
+        all.push(alone(times));
+    }
+    all.sort_by(f64::total_cmp);
+    [alone(least), all[all.len() / 2]]
 }
 
 /// Prints the row of a call, where it is asked for.
@@ -123,7 +131,9 @@ fn row(asked: &Asked, name: &str, operands: &Operands, call: (u32, u32)) {
         return;
     }
     let variables = operands.variables();
-    let [best, median] = once(operands, call, asked.time).map(|time| time / (1u64 << variables) as f64);
+    let copies = copies_of(call).map(|call| operands.repeated(call));
+    let times = once(&operands.repeated(call), copies.as_ref(), asked.time);
+    let [best, median] = times.map(|time| time / (1u64 << variables) as f64);
     println!("{name:<42} w={WIDTH}  n={variables:<2} {best:9.4} {median:9.4} ns/elem");
 }
 

@@ -1,7 +1,7 @@
 //! Batches of equality tables.
 
+use crate::calls::Calls;
 use crate::case::{Case, first};
-use crate::timed::Calls;
 use mlu_ring::{ExtensionField, Field, PrimeCharacteristicRing, RowMajorMatrixView};
 use multilinear_util::eq_batch::{eval_eq_base_batch, eval_eq_batch};
 use std::alloc::{AllocError, Global};

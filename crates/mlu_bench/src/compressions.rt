@@ -1,8 +1,8 @@
 //! Compressions of a table over the base at half of a point.
 ghost use Rattle.std.specs.Prelude.{◌*◌, ◌^◌, ◌≤◌, IsTrue};
 
+use crate::calls::Calls;
 use crate::case::{Case, first, first_lane};
-use crate::timed::Calls;
 use mlu_ring::{ExtensionField, Field, PackedValue};
 use multilinear_util::point::Point;
 use multilinear_util::split_eq::SplitEq;

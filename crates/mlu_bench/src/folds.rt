@@ -1,7 +1,7 @@
 //! Folds of a table to a new one.
 
+use crate::calls::Calls;
 use crate::case::first;
-use crate::timed::Calls;
 use mlu_ring::{Additive, Algebra};
 use multilinear_util::poly::Poly;
 use std::alloc::{AllocError, Global};

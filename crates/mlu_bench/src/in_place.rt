@@ -1,11 +1,10 @@
-//! Folds of a table in place, each on a copy, timed without the copies.
+//! Folds of a table in place, each on a copy.
 
 use crate::case::first;
-use crate::clock::now;
-use crate::timed::Asked;
 use mlu_ring::{Additive, Algebra};
 use multilinear_util::poly::Poly;
 use std::alloc::{AllocError, Global};
+use std::mem::replace;
 
 /// Folds the first variable at each of the challenges in turn, as long as there is one.
 pub fn fold_in_turn<F: Algebra<R>, R: Additive>(table: &mut Poly<F>, challenges: &[R]) {
@@ -18,7 +17,7 @@ pub fn fold_in_turn<F: Algebra<R>, R: Additive>(table: &mut Poly<F>, challenges:
 }
 
 /// The first value of the table with its first (0) or its last (1) variable at `r`, with its first as
-/// coefficients (2), or with its first variables at the challenges, one after the other (3).
+/// coefficients (2), with its first variables at the challenges, one after the other (3), or as it is (4).
 fn folded<F: Algebra<R>, R: Additive>(
     mut table: Poly<F>,
     challenges: &[R],
@@ -32,32 +31,45 @@ fn folded<F: Algebra<R>, R: Additive>(
         0 => table.fix_prefix_var_mut(r),
         1 => table.fix_suffix_var_mut(r),
         2 => table.fix_prefix_var_mut_monomial(r),
-        _ => fold_in_turn(&mut table, challenges),
+        3 => fold_in_turn(&mut table, challenges),
+        _ => {}
     }
     Ok(first(table.as_slice()))
 }
 
-/// As [`crate::timed::time`], each call on a copy of the table that is made before.
-pub fn time_on_copies<F: Algebra<R>, R: Additive>(
-    alloc: Global,
-    table: &Poly<F>,
+/// The sum of what the call gives on each of the copies.
+fn sum_of_folds<F: Algebra<R>, R: Additive>(
+    copies: Vec<Poly<F>>,
     challenges: &[R],
     r: R,
-    asked: Asked,
-    times: &mut [u64],
+    call: u32,
 ) -> Result<F, AllocError> {
-    let Asked { call, rounds } = asked;
     let mut sum = F::ZERO;
-    for time in times.iter_mut() {
-        let mut copies = Vec::new(alloc);
-        for _ in 0..rounds {
-            copies.push(table.try_clone(alloc)?)?;
-        }
-        let start = now();
-        for copy in copies {
-            sum = sum + folded(copy, challenges, r, call)?;
-        }
-        *time = now().wrapping_sub(start);
+    for copy in copies {
+        sum = sum + folded(copy, challenges, r, call)?;
     }
     Ok(sum)
+}
+
+/// The sum of what so many calls give, each on a copy of the table. A run of copies, of 2^14 elements or
+/// of one copy, is made before its folds, as in the Rust crate's benchmark, and kept until then, so that
+/// copies alone (4) are made too.
+pub fn sum_on_copies<F: Algebra<R>, R: Additive>(
+    alloc: Global,
+    table: &Poly<F>,
+    (challenges, r): (&[R], R),
+    call: u32,
+    rounds: usize,
+) -> Result<F, AllocError> {
+    let run = 1_usize << 14_usize.saturating_sub(challenges.len());
+    let mut sum = F::ZERO;
+    let mut copies = Vec::new(alloc);
+    for _ in 0..rounds {
+        if copies.len() >= run {
+            let made = replace(&mut copies, Vec::new(alloc));
+            sum = sum + sum_of_folds(made, challenges, r, call)?;
+        }
+        copies.push(table.try_clone(alloc)?)?;
+    }
+    Ok(sum + sum_of_folds(copies, challenges, r, call)?)
 }

@@ -1,13 +1,13 @@
 //! Kernels for the benchmark in `bench/`, as C functions over words.
 //!
 //! Each makes elements of the words and repeats one operation on them, place by place, or one call
-//! on tables and points of the base and of the extension of degree four, which it times. Stands on
-//! `multilinear_util` and `mlu_sumcheck`, and on `libc` for the clock; nothing stands on it.
+//! on tables and points of the base and of the extension of degree four. Stands on `multilinear_util`
+//! and `mlu_sumcheck`; nothing stands on it.
 #![tactic(auto)]
 
 mod batches;
+mod calls;
 mod case;
-mod clock;
 mod compressions;
 mod folds;
 mod in_place;
@@ -17,13 +17,11 @@ mod rounds;
 mod sequences;
 mod splits;
 mod tables;
-mod timed;
 mod values;
 
 use crate::case::Case;
-use crate::kinds::time_kind;
+use crate::kinds::sum_of_kind;
 use crate::rounds::{repeat_rounds, tables_of};
-use crate::timed::Asked;
 use mlu_ext::QuarticExtension;
 use mlu_lanes::{BabyBear, Lanes};
 use mlu_ring::place_by_place::{multiply_each, sub_each};
@@ -184,14 +182,12 @@ fn case_of(
     })
 }
 
-/// Times the call with this number of this kind, made so many times for each of the times, in
-/// nanoseconds of processor time without what comes before the calls, and writes the sum of an entry of
-/// what each call gives. Gives false where memory is refused or the sizes differ.
+/// Repeats the call with this number of this kind on what is made of the words before, and writes the
+/// sum of an entry of what each call gives. Gives false where memory is refused or the sizes differ.
 #[unsafe(no_mangle)]
 pub extern "C" fn mlu_bench_call(
     alloc: Global,
     out: &mut [u32],
-    times: &mut [u64],
     entries: &[u32],
     point: &[u32],
     columns: &[u32],
@@ -203,8 +199,7 @@ pub extern "C" fn mlu_bench_call(
     let Ok(case) = case_of(alloc, entries, point, columns, scalars) else {
         return false;
     };
-    let asked = Asked { call, rounds };
-    write(out, time_kind(alloc, &case, kind, asked, times))
+    write(out, sum_of_kind(alloc, case, kind, call, rounds))
 }
 
 /// Repeats the call of sumcheck with this number, on a table, the weights of a point and

@@ -1,7 +1,7 @@
 //! Tables of packed elements: made, unpacked and evaluated.
 
+use crate::calls::Calls;
 use crate::case::{Case, first, first_lane};
-use crate::timed::Calls;
 use mlu_ring::{ExtensionField, Field, PackedValue};
 use multilinear_util::poly::Poly;
 use std::alloc::{AllocError, Global};

@@ -1,8 +1,8 @@
 //! All folds of a table over the base, of which the first goes to the extension.
 
+use crate::calls::Calls;
 use crate::case::{Case, first, first_lane};
 use crate::in_place::fold_in_turn;
-use crate::timed::Calls;
 use mlu_ring::{Algebra, ExtensionField, Field, PackedValue};
 use std::alloc::{AllocError, Global};
 

@@ -1,7 +1,7 @@
 //! A split table written out, and added to a table.
 
+use crate::calls::Calls;
 use crate::case::{Case, first, first_lane};
-use crate::timed::Calls;
 use mlu_ring::{ExtensionField, Field, PackedValue, PrimeCharacteristicRing};
 use multilinear_util::split_eq::SplitEq;
 use std::alloc::{AllocError, Global};

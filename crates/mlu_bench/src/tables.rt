@@ -1,7 +1,7 @@
 //! Equality tables of a point, over any ring.
 
+use crate::calls::Calls;
 use crate::case::first;
-use crate::timed::Calls;
 use mlu_ring::Field;
 use multilinear_util::point::Point;
 use multilinear_util::poly::Poly;
