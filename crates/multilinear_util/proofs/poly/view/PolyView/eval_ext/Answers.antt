@@ -4,8 +4,8 @@ use Rattle.multilinear_util.specs.Views.{entries}
 use Rattle.multilinear_util.proofs.Splits.{half_fits, pair-unit}
 use Rattle.multilinear_util.proofs.poly.view.PolyView.eval_ext.Goals as goal
 
-pub new_packed-requires : goal.new_packed-requires
-new_packed-requires g c =
+pub new_unpacked-requires : goal.new_unpacked-requires
+new_unpacked-requires g c =
     let whole : 2 ^ length c.args.point.now ≤ length (entries c.args.self.now) = omega (arith, c.requires) in
     half_fits (length c.args.point.now) (length (entries c.args.self.now)) whole (search rules)
 
