@@ -40,7 +40,7 @@ module _ {R : Type 0} (ring : Ring R) (laws : RingLaws ring) where
 
 -- a map of rings on each coefficient is one of the polynomials
 module _ {B R : Type 0} (base : Ring B) (ring : Ring R) (f : B → R) (base_laws : RingLaws base) (laws : RingLaws ring) (keeps : IsRingMap base ring f) where
-  image-eleven : f (eleven base) ≡ eleven ring
+  pub image-eleven : f (eleven base) ≡ eleven ring
   unfolding eleven sum_below
   image-eleven = simp (keeps.sum, keeps.one, keeps.zero)
 

@@ -2,5 +2,6 @@
 pub mod Entrywise
 pub mod OneLane
 pub mod PlaceSums
+pub mod Prepared
 pub mod ResidueSums
 pub mod PackedSums

@@ -1,5 +1,5 @@
 -- Sums of four products place by place, from residues that are reduced once.
-use Rattle.std.proofs.Common.{◌≡◌, ℕ, ◌+◌, ◌*◌, ◌%◌, List}
+use Rattle.std.proofs.Common.{◌≡◌, ℕ, ◌+◌, ◌*◌, ◌%◌, List, [], ◌∷◌}
 use Rattle.mlu_ring.specs.Fours.{places}
 use Rattle.mlu_ring.specs.Tables.{pair}
 use Rattle.mlu_lanes.specs.BabyBear.{baby_bear_ring, canonical, reduced}
@@ -18,3 +18,8 @@ module _ {W : ℕ} (a b c d p q r s : List (BabyBear W)) where
       ≡ (residue_at a k * residue_at p k + residue_at b k * residue_at q k + (residue_at c k * residue_at r k + residue_at d k * residue_at s k)) % MODULUS
       → x ≡ sum_at k
   sum_at_reduced k x is = reduced_once _ _ _ _ _ _ _ _ x is
+
+-- the row at place k times a column
+abbrev pub row_at_times : {W : ℕ} → List (BabyBear W) → List (BabyBear W) → List (BabyBear W) → List (BabyBear W) → BabyBear W → BabyBear W → BabyBear W
+    → BabyBear W → ℕ → BabyBear W
+row_at_times {W} a b c d p q r s k = pair (baby_bear_ring W) (places a b c d k (reduced 0)) (p ∷ q ∷ r ∷ s ∷ [])

@@ -6,6 +6,7 @@ use std::alloc::AllocError;
 
 mod extension;
 mod field;
+mod montgomery;
 mod packed;
 mod reduce;
 mod reduce_each;

@@ -11,6 +11,14 @@ pub fn all<const W: usize>(word: u32) -> Simd<u32, W>
     Simd::splat(word)
 }
 
+/// The sums, which wrap round.
+#[inline(always)]
+pub fn sums<const W: usize>(a: Simd<u32, W>, b: Simd<u32, W>) -> Simd<u32, W>
+    ensures { (j : ℕ) → j < W → slice_index result j ≡ (slice_index a.entry j + slice_index b.entry j) % 2 ^ 32 }
+{
+    a + b
+}
+
 /// The differences, which wrap round.
 #[inline(always)]
 pub fn differences<const W: usize>(a: Simd<u32, W>, b: Simd<u32, W>) -> Simd<u32, W>

@@ -1,9 +1,9 @@
 -- Sums of products, place by place.
-use Rattle.std.proofs.Common.{◌≡◌, ℕ, zero, suc, refl, map, List, [], ◌∷◌, length, get_or, ap, arith}
+use Rattle.std.proofs.Common.{◌≡◌, ℕ, zero, suc, refl, map, List, [], ◌∷◌, length, get_or, ap, sym, ◌∙◌, arith}
 use Rattle.mlu_ring.specs.Ring.{Ring, RingLaws}
 use Rattle.mlu_ring.specs.Sums.{sum_below}
 use Rattle.mlu_ring.specs.Tables.{pair}
-use Rattle.mlu_ring.proofs.Rings.{sum_zero}
+use Rattle.mlu_ring.proofs.Rings.{sum_zero, sum_product}
 
 -- what is read of a list, read of its image
 pub read-map : {A B : Type 0} (f : A → B) (xs : List A) (i : ℕ) (x : A) → x ≡ get_or xs i x → f x ≡ get_or (map f xs) i (f x)
@@ -19,6 +19,16 @@ module _ {R : Type 0} (ring : Ring R) (laws : RingLaws ring) where
   pub pair-of_four : (a b c d u v w x : R) → pair ring (a ∷ b ∷ c ∷ d ∷ []) (u ∷ v ∷ w ∷ x ∷ []) ≡ ((a ⊗ u) ⊕ (b ⊗ v)) ⊕ ((c ⊗ w) ⊕ (d ⊗ x))
   unfolding pair sum_below
   pair-of_four a b c d u v w x = simp (sum_zero ring laws, laws.sum_assoc)
+
+  four-scaled : (a b c d p q r s f : R)
+      → ((a ⊗ (p ⊗ f)) ⊕ (b ⊗ (q ⊗ f))) ⊕ ((c ⊗ (r ⊗ f)) ⊕ (d ⊗ (s ⊗ f))) ≡ (((a ⊗ p) ⊕ (b ⊗ q)) ⊕ ((c ⊗ r) ⊕ (d ⊗ s))) ⊗ f
+  four-scaled a b c d p q r s f = simp (sum_product ring laws, laws.product_assoc)
+
+  -- four factors that have one in common
+  pub pair-scaled_four : (a b c d p q r s f : R)
+      → pair ring (a ∷ b ∷ c ∷ d ∷ []) ((p ⊗ f) ∷ (q ⊗ f) ∷ (r ⊗ f) ∷ (s ⊗ f) ∷ []) ≡ pair ring (a ∷ b ∷ c ∷ d ∷ []) (p ∷ q ∷ r ∷ s ∷ []) ⊗ f
+  pair-scaled_four a b c d p q r s f =
+      pair-of_four a b c d (p ⊗ f) (q ⊗ f) (r ⊗ f) (s ⊗ f) ∙ four-scaled a b c d p q r s f ∙ ap (λ t. t ⊗ f) (sym (pair-of_four a b c d p q r s))
 
   -- four products, added in two halves, from what is read of the lists
   pub pair-four : (l r : List R) (a b c d u v w x : R) → length l ≡ 4 → length r ≡ 4

@@ -99,6 +99,28 @@ pub trait PrimeCharacteristicRing: Additive + Mul<Self, Output = Self> {
         }
     }
 
+    /// The same sums, place by place, with one column: `out[k]` becomes the row of the elements at `k`
+    /// times the column. Asks for slices of one length.
+    ///
+    /// A ring that can prepare a factor does so once for all places.
+    #[inline]
+    fn rows_times_column(
+        out: &mut [Self],
+        l: &(&[Self], &[Self], &[Self], &[Self]),
+        column: &(Self, Self, Self, Self),
+    )
+        requires { AreLong (length out.old) l.now.0.now l.now.1.now l.now.2.now l.now.3.now }
+        ensures long { length out.new ≡ length out.old }
+        ensures each { (k : ℕ) → k < length out.old → slice_index_or out.new k Self.ring.zero
+            ≡ pair Self.ring (places l.now.0.now l.now.1.now l.now.2.now l.now.3.now k Self.ring.zero)
+            (column.now.0 ∷ column.now.1 ∷ column.now.2 ∷ column.now.3 ∷ []) }
+    {
+        for k in 0..out.len() {
+            let row = (l.0[k], l.1[k], l.2[k], l.3[k]);
+            out[k] = Self::four_products(&row, column);
+        }
+    }
+
     /// `len` zeros, in one growth of exactly that many elements. None at all do not fail.
     ///
     /// # Errors

@@ -41,7 +41,8 @@ fn one_by_one<R: PrimeCharacteristicRing>(l: &(R, R, R, R), r: &(R, R, R, R)) ->
     l.0 * r.0 + l.1 * r.1 + l.2 * r.2 + l.3 * r.3
 }
 
-/// Whether at five places 2 a b + 2 d is right for a = 1 to 5, b = 5 to 1, d = 0 to 4.
+/// Whether at five places 2 a b + 2 d, and a + 2 b + 3 + 4 d, are right for a = 1 to 5, b = 5 to 1,
+/// d = 0 to 4.
 pub fn sums_at_places<R: PrimeCharacteristicRing>(alloc: Global) -> Result<bool, AllocError> {
     let a = elements::<R>(alloc, &[1, 2, 3, 4, 5])?;
     let b = elements::<R>(alloc, &[5, 4, 3, 2, 1])?;
@@ -51,7 +52,10 @@ pub fn sums_at_places<R: PrimeCharacteristicRing>(alloc: Global) -> Result<bool,
     let left = (a.as_slice(), b.as_slice(), one.as_slice(), d.as_slice());
     let right = (b.as_slice(), a.as_slice(), d.as_slice(), one.as_slice());
     R::each_four_products(out.as_mut_slice(), &left, &right);
-    Ok(are(out.as_slice(), &[10, 18, 22, 22, 18]))
+    let each = are(out.as_slice(), &[10, 18, 22, 22, 18]);
+    let column = (R::ONE, R::TWO, R::TWO + R::ONE, R::TWO.double());
+    R::rows_times_column(out.as_mut_slice(), &left, &column);
+    Ok(each && are(out.as_slice(), &[14, 17, 20, 23, 26]))
 }
 
 /// Whether three zeros are three zeros.

@@ -183,7 +183,7 @@ impl<R: PrimeCharacteristicRing> PrimeCharacteristicRing for QuarticExtension<R>
 
 // Eleven times x, as 8 x + 2 x + x.
 #[inline(always)]
-fn times_eleven<R: Additive>(x: R) -> R
+pub(super) fn times_eleven<R: Additive>(x: R) -> R
     ensures { result ≡ R.ring.product (eleven R.ring) x }
 {
     let two = x.double();

@@ -96,10 +96,14 @@ fn quartics_of_quartics(alloc: Global, row: Row<Quartic, Quartic>) -> Result<boo
     holds::<Quartic, Quartic>(alloc, row)
 }
 
-/// Whether twice a packed element is the same by a packing.
+/// Whether twice a packed element is the same by a packing, and its product with an element that of
+/// the element's image.
 fn scales_lanes<F: Field, EF: ExtensionField<F>>() -> bool {
     let packed = EF::ExtensionPacking::from_packed_coefficients_fn(|_k| F::Packing::ONE);
+    let element = counted::<F, EF>();
+    let image = <EF::ExtensionPacking as Algebra<EF>>::from_base(element);
     packed.scale(F::Packing::ONE.double()) == packed.double()
+        && <EF::ExtensionPacking as Algebra<EF>>::scale(packed, element) == packed * image
 }
 
 /// The element with the coefficients 1, 2, ..

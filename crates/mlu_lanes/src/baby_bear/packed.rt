@@ -45,6 +45,7 @@ pub fn residue_products<const W: usize>(a: Simd<u32, W>, b: Simd<u32, W>) -> Sim
     requires { (j : ℕ) → j < W → (slice_index a j < MODULUS) × (slice_index b j < MODULUS) }
     ensures value { (j : ℕ) → j < W → slice_index result j ≡ slice_index a.entry j * slice_index b.entry j }
     ensures small { (j : ℕ) → j < W → slice_index result j < 2 ^ 62 }
+    ensures least { (j : ℕ) → j < W → slice_index result j < MODULUS * MODULUS }
 {
     wide_products(widened(a), widened(b))
 }

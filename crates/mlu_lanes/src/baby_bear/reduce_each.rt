@@ -10,7 +10,7 @@ use crate::words::{
 use std::simd::prelude::*;
 
 /// `2^28 - 2`, which is `2^32` modulo the modulus.
-const FOLD: u64 = 268435454;
+pub const FOLD: u64 = 268435454;
 
 /// The residues of any lanes.
 ///
@@ -51,9 +51,9 @@ fn folded_quotients<const W: usize>(folded: Simd<u64, W>) -> Simd<u64, W>
     shifted_right(scaled, 33)
 }
 
-// The residues of lanes below twice the modulus.
+/// The residues of lanes below twice the modulus.
 #[inline(always)]
-fn reduce_each_once<const W: usize>(words: Simd<u32, W>) -> Simd<u32, W>
+pub fn reduce_each_once<const W: usize>(words: Simd<u32, W>) -> Simd<u32, W>
     requires { (j : ℕ) → j < W → slice_index words j < 2 * MODULUS }
     ensures { (j : ℕ) → j < W → slice_index result j ≡ slice_index words.entry j % MODULUS }
 {

@@ -3,8 +3,9 @@ ghost use Rattle.std.specs.Prelude.{◌≡◌, refl};
 ghost use Rattle.mlu_lanes.specs.BabyBear.{baby_bear_ring, baby_bear_laws, canonical_are_residues};
 ghost use Rattle.mlu_lanes.specs.Residues.{eq_residues};
 
+use super::montgomery::prepared;
 use super::reduce::{reduce_once, reduce_product, reduce_word};
-use super::rows::{sum_of_rows, sums_at};
+use super::rows::{prepared_sums_at, sum_of_rows, sums_at};
 use super::{BabyBear, MODULUS};
 use mlu_ring::{Additive, PrimeCharacteristicRing};
 use std::ops::{Add, Mul, Neg, Sub};
@@ -157,6 +158,35 @@ impl<const W: usize> PrimeCharacteristicRing for BabyBear<W> {
             let left = (l.0[k], l.1[k], l.2[k], l.3[k]);
             let right = (r.0[k], r.1[k], r.2[k], r.3[k]);
             out[k] = Self::four_products(&left, &right);
+        }
+    }
+
+    // The column is prepared once, for four places at a time.
+    #[inline(always)]
+    fn rows_times_column(
+        out: &mut [Self],
+        l: &(&[Self], &[Self], &[Self], &[Self]),
+        column: &(Self, Self, Self, Self),
+    ) {
+        let residues = [
+            column.0.value,
+            column.1.value,
+            column.2.value,
+            column.3.value,
+        ];
+        let factors = prepared(Simd::from_array(residues)).to_array();
+        let groups = out.len() / GROUP;
+        for g in 0..groups {
+            let k = GROUP * g;
+            let sums = prepared_sums_at(l, &factors, k).to_array();
+            out[k] = BabyBear { value: sums[0] };
+            out[k + 1] = BabyBear { value: sums[1] };
+            out[k + 2] = BabyBear { value: sums[2] };
+            out[k + 3] = BabyBear { value: sums[3] };
+        }
+        for k in GROUP * groups..out.len() {
+            let row = (l.0[k], l.1[k], l.2[k], l.3[k]);
+            out[k] = Self::four_products(&row, column);
         }
     }
 

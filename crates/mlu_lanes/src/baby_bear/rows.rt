@@ -1,8 +1,9 @@
 //! Sums of four products, four at a time: a row of residues times a matrix, and slices place by place.
-ghost use Rattle.std.specs.Prelude.{◌≡◌, ℕ, ◌+◌, ◌*◌, ◌%◌, ◌<◌, length, slice_index};
+ghost use Rattle.std.specs.Prelude.{◌≡◌, ℕ, ◌+◌, ◌*◌, ◌%◌, ◌^◌, ◌<◌, length, slice_index};
 ghost use Rattle.mlu_lanes.specs.BabyBear.{canonical};
 ghost use Rattle.mlu_lanes.specs.Packed.{residue_at};
 
+use super::montgomery::reduce_prepared;
 use super::packed::residue_products;
 use super::reduce_each::reduce_each_word;
 use super::{BabyBear, MODULUS};
@@ -70,6 +71,40 @@ pub fn sums_at<const W: usize>(
         residue_products(words_at(l.3, k), words_at(r.3, k)),
     );
     reduce_each_word(wide_sums(low, high))
+}
+
+/// The residues of the sums of four products with the same factors, at four places from `k` on. The
+/// factors are prepared.
+#[inline(always)]
+pub fn prepared_sums_at<const W: usize>(
+    l: &(
+        &[BabyBear<W>],
+        &[BabyBear<W>],
+        &[BabyBear<W>],
+        &[BabyBear<W>],
+    ),
+    factors: &[u32; 4],
+    k: usize,
+) -> Simd<u32, 4>
+    requires left { (k + 3 < length l.now.0.now) × (k + 3 < length l.now.1.now)
+        × (k + 3 < length l.now.2.now) × (k + 3 < length l.now.3.now) }
+    requires least { (i : ℕ) → i < 4 → slice_index factors.now i < MODULUS }
+    ensures least { (j : ℕ) → j < 4 → slice_index result j < MODULUS }
+    ensures value { (j : ℕ) → j < 4 → slice_index result j * 2 ^ 32 % MODULUS
+        ≡ (residue_at l.now.0.now (k + j) * slice_index factors.now 0
+        + residue_at l.now.1.now (k + j) * slice_index factors.now 1
+        + (residue_at l.now.2.now (k + j) * slice_index factors.now 2
+        + residue_at l.now.3.now (k + j) * slice_index factors.now 3)) % MODULUS }
+{
+    let low = wide_sums(
+        residue_products(words_at(l.0, k), all(factors[0])),
+        residue_products(words_at(l.1, k), all(factors[1])),
+    );
+    let high = wide_sums(
+        residue_products(words_at(l.2, k), all(factors[2])),
+        residue_products(words_at(l.3, k), all(factors[3])),
+    );
+    reduce_prepared(wide_sums(low, high))
 }
 
 // The least residues at four places from `k` on. The compiler makes one load of them.

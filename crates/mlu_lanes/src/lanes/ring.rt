@@ -152,3 +152,25 @@ impl<F: PrimeCharacteristicRing, const W: usize> PrimeCharacteristicRing for Lan
 
     ghost neg_one_is = { splat_neg_one W F.ring F.NEG_ONE F.neg_one_is };
 }
+
+impl<F: PrimeCharacteristicRing, const W: usize> Lanes<F, W> {
+    ghost use Rattle.std.specs.Prelude.{◌∷◌, []};
+    ghost use Rattle.mlu_ring.specs.Tables.{pair};
+
+    /// The sum of the products of four packed values with an element each, which stands in every lane.
+    #[inline(always)]
+    pub fn row_times_column(row: &(Self, Self, Self, Self), column: &(F, F, F, F)) -> Self
+        ensures { result ≡ pair (lane_ring W F.ring) (row.now.0 ∷ row.now.1 ∷ row.now.2 ∷ row.now.3 ∷ [])
+            (splat W column.now.0 ∷ splat W column.now.1 ∷ splat W column.now.2 ∷ splat W column.now.3 ∷ []) }
+    {
+        let mut values = [F::ZERO; W];
+        let places = (
+            &row.0.values[..],
+            &row.1.values[..],
+            &row.2.values[..],
+            &row.3.values[..],
+        );
+        F::rows_times_column(&mut values, &places, column);
+        Lanes { values }
+    }
+}

@@ -273,10 +273,20 @@ fn products_of_arrays(rt: HostRuntime) {
     let sixty = Bears::splat(Bear::from_u32(60));
     assert_eq!(rt; dot4::<Bear>(&fives, &[Bears::splat(three); 4]), sixty);
     assert_eq!(rt; mixed_dot4::<Bear>(&fives, &[three; 4]), sixty);
+    let (row, column) = (
+        (fives[0], fives[1], fives[2], fives[3]),
+        (three, three, three, three),
+    );
+    assert_eq!(rt; Bears::row_times_column(&row, &column), sixty);
     let (fives, three) = ([Words::splat(Word::new(5)); 4], Word::new(3));
     let sixty = Words::splat(Word::new(60));
     assert_eq!(rt; dot4::<Word>(&fives, &[Words::splat(three); 4]), sixty);
     assert_eq!(rt; mixed_dot4::<Word>(&fives, &[three; 4]), sixty);
+    let (row, column) = (
+        (fives[0], fives[1], fives[2], fives[3]),
+        (three, three, three, three),
+    );
+    assert_eq!(rt; Words::row_times_column(&row, &column), sixty);
 }
 
 /// Whether residues, words and lanes of residues are algebras over themselves.

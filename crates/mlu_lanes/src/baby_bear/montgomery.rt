@@ -1,0 +1,77 @@
+//! Montgomery's reduction lane by lane, for sums of products with prepared factors.
+//!
+//! A factor that meets many elements is multiplied by `2^32` once. The sums of its products then ask two
+//! products each for their residues, where [`reduce_each_word`] asks three.
+ghost use Rattle.std.specs.Prelude.{◌≡◌, ℕ, ◌+◌, ◌-◌, ◌*◌, ◌/◌, ◌%◌, ◌^◌, ◌<◌, slice_index};
+ghost use Rattle.mlu_lanes.specs.declared.baby_bear.reduce_each.TheConstants.{FOLD};
+
+use super::MODULUS;
+use super::reduce_each::{FOLD, reduce_each_once, reduce_each_word};
+use crate::words::{
+    all, differences, least, lower_halves, narrowed, shifted_right, sums, wide_all, wide_products,
+    widened,
+};
+use std::simd::prelude::*;
+
+/// The inverse of the modulus modulo 2^32.
+const INVERSE: u64 = 2281701377;
+
+/// Four residues times `2^32`: factors of sums for [`reduce_prepared`].
+#[inline(always)]
+pub fn prepared(residues: Simd<u32, 4>) -> Simd<u32, 4>
+    requires { (j : ℕ) → j < 4 → slice_index residues j < MODULUS }
+    ensures { (j : ℕ) → j < 4 → slice_index result j ≡ slice_index residues j * FOLD % MODULUS }
+{
+    let wide = widened(residues);
+    let scaled = wide_products(wide, wide_all(FOLD));
+    reduce_each_word(scaled)
+}
+
+/// The residues whose product with `2^32` has the residue of the lane. Asks for lanes that are at most
+/// the sum of four products of residues.
+#[inline(always)]
+pub fn reduce_prepared<const W: usize>(words: Simd<u64, W>) -> Simd<u32, W>
+    requires { (j : ℕ) → j < W → slice_index words j < 4 * MODULUS * MODULUS }
+    ensures least { (j : ℕ) → j < W → slice_index result j < MODULUS }
+    ensures value { (j : ℕ) → j < W → slice_index result j * 2 ^ 32 % MODULUS ≡ slice_index words.entry j % MODULUS }
+{
+    residue_differences(upper_residues(words), carried(low_quotients(words)))
+}
+
+// The multiples of the modulus that have the lower halves of the lanes, over the modulus.
+#[inline(always)]
+fn low_quotients<const W: usize>(words: Simd<u64, W>) -> Simd<u64, W>
+    requires { (j : ℕ) → j < W → slice_index words j < 2 ^ 64 }
+    ensures { (j : ℕ) → j < W → slice_index result j ≡ slice_index words.entry j % 2 ^ 32 * INVERSE % 2 ^ 32 }
+{
+    lower_halves(wide_products(lower_halves(words), wide_all(INVERSE)))
+}
+
+// The upper halves of these multiples.
+#[inline(always)]
+fn carried<const W: usize>(quotients: Simd<u64, W>) -> Simd<u32, W>
+    requires { (j : ℕ) → j < W → slice_index quotients j < 2 ^ 32 }
+    ensures { (j : ℕ) → j < W → slice_index result j ≡ slice_index quotients.entry j * MODULUS / 2 ^ 32 }
+{
+    let multiples = wide_products(quotients, wide_all(u64::from(MODULUS)));
+    narrowed(shifted_right(multiples, 32))
+}
+
+// The residues of the upper halves.
+#[inline(always)]
+fn upper_residues<const W: usize>(words: Simd<u64, W>) -> Simd<u32, W>
+    requires { (j : ℕ) → j < W → slice_index words j < 4 * MODULUS * MODULUS }
+    ensures { (j : ℕ) → j < W → slice_index result j ≡ slice_index words.entry j / 2 ^ 32 % MODULUS }
+{
+    reduce_each_once(narrowed(shifted_right(words, 32)))
+}
+
+// The differences of residues, as residues.
+#[inline(always)]
+fn residue_differences<const W: usize>(a: Simd<u32, W>, b: Simd<u32, W>) -> Simd<u32, W>
+    requires { (j : ℕ) → j < W → (slice_index a j < MODULUS) × (slice_index b j < MODULUS) }
+    ensures { (j : ℕ) → j < W → slice_index result j ≡ (slice_index a.entry j + MODULUS - slice_index b.entry j) % MODULUS }
+{
+    let wrapped = differences(a, b);
+    least(wrapped, sums(wrapped, all(MODULUS)))
+}
