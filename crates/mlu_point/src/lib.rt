@@ -9,4 +9,5 @@
 #![tactic(auto)]
 
 pub mod eq_batch;
+mod evaluator;
 pub mod point;

@@ -4,6 +4,7 @@ ghost use Rattle.mlu_ring.specs.Tables.{pair};
 
 use crate::field::Field;
 use crate::packed::{Lanewise, PackedValue};
+use crate::ring::PrimeCharacteristicRing;
 use crate::tally::Tally;
 
 /// What multiplies for code over [`Lanewise`], which has no product of its own.
@@ -15,7 +16,8 @@ pub trait Meter<F: Lanewise> {
 
     ghost groups: { Self → ℕ };
 
-    /// The product. Raises `made` by 1.
+    /// The product. Raises `made` by 1. Loops by one `b` are fast where the ring has a fast
+    /// [`times_fixed`](crate::PrimeCharacteristicRing::times_fixed).
     fn times(&mut self, a: F, b: F) -> F
         ensures value { result ≡ F.ring.product a b }
         ensures made { made self.new ≡ made self.old + 1 }
@@ -67,7 +69,7 @@ impl<F: Field> Meter<F> for Unmetered {
     #[inline]
     fn times(&mut self, a: F, b: F) -> F {
         self.products.raise(1);
-        a * b
+        a.times_fixed(b)
     }
 
     #[inline]

@@ -81,8 +81,8 @@ pub(super) fn add_packed_rows<F: Field, EF: ExtensionField<F>>(
 {
     for j in 0..eq0.len() {
         let start = j * weights.len();
-        let factor = <EF::ExtensionPacking as Algebra<EF>>::from_base(scale * eq0[j]);
-        add_multiple(&mut out[start..start + weights.len()], weights, factor);
+        let factor = scale * eq0[j];
+        add_scaled_each(&mut out[start..start + weights.len()], weights, factor);
     }
 }
 
@@ -93,7 +93,18 @@ pub(crate) fn add_multiple<R: PrimeCharacteristicRing>(out: &mut [R], weights: &
     ensures { out.new ≡ plus_scaled R.ring out.old factor weights.now }
 {
     for i in 0..out.len() {
-        out[i] = out[i] + factor * weights[i];
+        out[i] = out[i] + weights[i].times_fixed(factor);
+    }
+}
+
+/// The same where the factor is the image of `factor`.
+#[inline]
+fn add_scaled_each<B: Additive, R: Algebra<B>>(out: &mut [R], weights: &[R], factor: B)
+    requires { length out.old ≡ length weights.now }
+    ensures { out.new ≡ plus_scaled R.ring out.old (R.embed factor) weights.now }
+{
+    for i in 0..out.len() {
+        out[i] = out[i] + weights[i].scale(factor);
     }
 }
 
@@ -108,11 +119,11 @@ pub(crate) fn add_lanes<F: Field, EF: ExtensionField<F>>(
     ensures { out.new ≡ plus_scaled EF.ring out.old factor (logical EF.ExtensionPacking.ext_lanes weights.now) }
 {
     let width = F::Packing::WIDTH;
-    let factors = <EF::ExtensionPacking as Algebra<EF>>::from_base(factor);
     for i in 0..weights.len() {
         let start = i * width;
         let group = &mut out[start..start + width];
-        let sum = EF::ExtensionPacking::from_ext_slice(group) + factors * weights[i];
+        let scaled = <EF::ExtensionPacking as Algebra<EF>>::scale(weights[i], factor);
+        let sum = EF::ExtensionPacking::from_ext_slice(group) + scaled;
         sum.store_ext(group);
     }
 }

@@ -152,6 +152,29 @@ impl<R: PrimeCharacteristicRing> PrimeCharacteristicRing for QuarticExtension<R>
 
     ghost NEG_ONE = { constant R.ZERO R.NEG_ONE };
 
+    // The columns of the factor are made and prepared once in a loop.
+    #[inline(always)]
+    fn times_fixed(self, factor: Self) -> Self {
+        let own = (self.c0, self.c1, self.c2, self.c3);
+        let QuarticExtension { c0, c1, c2, c3 } = factor;
+        let r1 = times_eleven(c1);
+        let r2 = times_eleven(c2);
+        let r3 = times_eleven(c3);
+        let product = R::row_times_fixed_columns(
+            &own,
+            &(c0, r3, r2, r1),
+            &(c1, c0, r3, r2),
+            &(c2, c1, c0, r3),
+            &(c3, c2, c1, c0),
+        );
+        QuarticExtension {
+            c0: product.0,
+            c1: product.1,
+            c2: product.2,
+            c3: product.3,
+        }
+    }
+
     // Sums of products of coefficients first: a row for each power of X on the left. What wraps is
     // multiplied by eleven once.
     #[inline(always)]

@@ -3,28 +3,48 @@
 //! A factor that meets many elements is multiplied by `2^32` once. The sums of its products then ask two
 //! products each for their residues, where [`reduce_each_word`] asks three.
 ghost use Rattle.std.specs.Prelude.{◌≡◌, ℕ, ◌+◌, ◌-◌, ◌*◌, ◌/◌, ◌%◌, ◌^◌, ◌<◌, slice_index};
+ghost use Rattle.mlu_lanes.specs.BabyBear.{canonical};
 ghost use Rattle.mlu_lanes.specs.declared.baby_bear.reduce_each.TheConstants.{FOLD};
 
-use super::MODULUS;
-use super::reduce_each::{FOLD, reduce_each_once, reduce_each_word};
+use super::reduce::reduce_product;
+use super::reduce_each::{FOLD, reduce_each_once};
+use super::{BabyBear, MODULUS};
 use crate::words::{
     all, differences, least, lower_halves, narrowed, shifted_right, sums, wide_all, wide_products,
-    widened,
 };
 use std::simd::prelude::*;
 
 /// The inverse of the modulus modulo 2^32.
 const INVERSE: u64 = 2281701377;
 
-/// Four residues times `2^32`: factors of sums for [`reduce_prepared`].
+/// A column of residues times `2^32`: factors of sums for [`reduce_prepared`].
+///
+/// One by one, so that the compiler prepares an element that stands in several columns once.
 #[inline(always)]
-pub fn prepared(residues: Simd<u32, 4>) -> Simd<u32, 4>
-    requires { (j : ℕ) → j < 4 → slice_index residues j < MODULUS }
-    ensures { (j : ℕ) → j < 4 → slice_index result j ≡ slice_index residues j * FOLD % MODULUS }
+pub fn prepared<const W: usize>(
+    column: &(BabyBear<W>, BabyBear<W>, BabyBear<W>, BabyBear<W>),
+) -> [u32; 4]
+    ensures first { slice_index result 0 ≡ canonical column.now.0 * FOLD % MODULUS }
+    ensures second { slice_index result 1 ≡ canonical column.now.1 * FOLD % MODULUS }
+    ensures third { slice_index result 2 ≡ canonical column.now.2 * FOLD % MODULUS }
+    ensures fourth { slice_index result 3 ≡ canonical column.now.3 * FOLD % MODULUS }
+    ensures least { (i : ℕ) → i < 4 → slice_index result i < MODULUS }
 {
-    let wide = widened(residues);
-    let scaled = wide_products(wide, wide_all(FOLD));
-    reduce_each_word(scaled)
+    [
+        prepared_word(column.0.value),
+        prepared_word(column.1.value),
+        prepared_word(column.2.value),
+        prepared_word(column.3.value),
+    ]
+}
+
+#[inline(always)]
+fn prepared_word(residue: u32) -> u32
+    requires { residue < MODULUS }
+    ensures value { result ≡ residue * FOLD % MODULUS }
+    ensures least { result < MODULUS }
+{
+    reduce_product(u64::from(residue) * FOLD)
 }
 
 /// The residues whose product with `2^32` has the residue of the lane. Asks for lanes that are at most

@@ -5,7 +5,9 @@ ghost use Rattle.mlu_lanes.specs.Residues.{eq_residues};
 
 use super::montgomery::prepared;
 use super::reduce::{reduce_once, reduce_product, reduce_word};
-use super::rows::{prepared_sums_at, sum_of_rows, sums_at};
+use super::rows::{
+    elements_of, prepared_sums_at, residue_sums_at, sum_of_prepared_rows, sum_of_rows, sums_at,
+};
 use super::{BabyBear, MODULUS};
 use mlu_ring::{Additive, PrimeCharacteristicRing};
 use std::ops::{Add, Mul, Neg, Sub};
@@ -74,6 +76,23 @@ impl<const W: usize> Additive for BabyBear<W> {
 
     ghost ONE = { (baby_bear_ring W).one };
 
+    // Four places at a time.
+    #[inline]
+    fn add_each(out: &mut [Self], b: &[Self]) {
+        let groups = out.len() / GROUP;
+        for g in 0..groups {
+            let k = GROUP * g;
+            let sums = residue_sums_at(out, b, k).to_array();
+            out[k] = BabyBear { value: sums[0] };
+            out[k + 1] = BabyBear { value: sums[1] };
+            out[k + 2] = BabyBear { value: sums[2] };
+            out[k + 3] = BabyBear { value: sums[3] };
+        }
+        for k in GROUP * groups..out.len() {
+            out[k] = out[k] + b[k];
+        }
+    }
+
     ghost laws = { baby_bear_laws W };
 
     ghost zero_is = { refl };
@@ -129,13 +148,29 @@ impl<const W: usize> PrimeCharacteristicRing for BabyBear<W> {
             Simd::from_array([first.2.value, second.2.value, third.2.value, fourth.2.value]),
             Simd::from_array([first.3.value, second.3.value, third.3.value, fourth.3.value]),
         );
-        let sums = sum_of_rows(l, &rows).to_array();
-        (
-            BabyBear { value: sums[0] },
-            BabyBear { value: sums[1] },
-            BabyBear { value: sums[2] },
-            BabyBear { value: sums[3] },
-        )
+        elements_of(sum_of_rows(l, &rows))
+    }
+
+    // The columns are prepared one by one.
+    #[inline(always)]
+    fn row_times_fixed_columns(
+        l: &(Self, Self, Self, Self),
+        first: &(Self, Self, Self, Self),
+        second: &(Self, Self, Self, Self),
+        third: &(Self, Self, Self, Self),
+        fourth: &(Self, Self, Self, Self),
+    ) -> (Self, Self, Self, Self) {
+        let first = prepared(first);
+        let second = prepared(second);
+        let third = prepared(third);
+        let fourth = prepared(fourth);
+        let rows = (
+            Simd::from_array([first[0], second[0], third[0], fourth[0]]),
+            Simd::from_array([first[1], second[1], third[1], fourth[1]]),
+            Simd::from_array([first[2], second[2], third[2], fourth[2]]),
+            Simd::from_array([first[3], second[3], third[3], fourth[3]]),
+        );
+        elements_of(sum_of_prepared_rows(l, &rows))
     }
 
     // Four places at a time.
@@ -168,13 +203,7 @@ impl<const W: usize> PrimeCharacteristicRing for BabyBear<W> {
         l: &(&[Self], &[Self], &[Self], &[Self]),
         column: &(Self, Self, Self, Self),
     ) {
-        let residues = [
-            column.0.value,
-            column.1.value,
-            column.2.value,
-            column.3.value,
-        ];
-        let factors = prepared(Simd::from_array(residues)).to_array();
+        let factors = prepared(column);
         let groups = out.len() / GROUP;
         for g in 0..groups {
             let k = GROUP * g;

@@ -5,9 +5,9 @@ ghost use Rattle.mlu_lanes.specs.Packed.{residue_at};
 
 use super::montgomery::reduce_prepared;
 use super::packed::residue_products;
-use super::reduce_each::reduce_each_word;
+use super::reduce_each::{reduce_each_once, reduce_each_word};
 use super::{BabyBear, MODULUS};
-use crate::words::{all, wide_sums};
+use crate::words::{all, sums, wide_sums};
 use std::simd::prelude::*;
 
 /// Lane `j` is the residue of the sum of the products of `l` and lane `j` of the rows of the matrix.
@@ -24,6 +24,42 @@ pub fn sum_of_rows<const W: usize>(
         ≡ (canonical l.now.0 * slice_index rows.now.0 j + canonical l.now.1 * slice_index rows.now.1 j
         + (canonical l.now.2 * slice_index rows.now.2 j + canonical l.now.3 * slice_index rows.now.3 j)) % MODULUS }
 {
+    reduce_each_word(unreduced_rows(l, rows))
+}
+
+/// [`sum_of_rows`] of prepared rows.
+#[inline(always)]
+pub fn sum_of_prepared_rows<const W: usize>(
+    l: &(BabyBear<W>, BabyBear<W>, BabyBear<W>, BabyBear<W>),
+    rows: &(Simd<u32, 4>, Simd<u32, 4>, Simd<u32, 4>, Simd<u32, 4>),
+) -> Simd<u32, 4>
+    requires first { (j : ℕ) → j < 4 → slice_index rows.now.0 j < MODULUS }
+    requires second { (j : ℕ) → j < 4 → slice_index rows.now.1 j < MODULUS }
+    requires third { (j : ℕ) → j < 4 → slice_index rows.now.2 j < MODULUS }
+    requires fourth { (j : ℕ) → j < 4 → slice_index rows.now.3 j < MODULUS }
+    ensures least { (j : ℕ) → j < 4 → slice_index result j < MODULUS }
+    ensures value { (j : ℕ) → j < 4 → slice_index result j * 2 ^ 32 % MODULUS
+        ≡ (canonical l.now.0 * slice_index rows.now.0 j + canonical l.now.1 * slice_index rows.now.1 j
+        + (canonical l.now.2 * slice_index rows.now.2 j + canonical l.now.3 * slice_index rows.now.3 j)) % MODULUS }
+{
+    reduce_prepared(unreduced_rows(l, rows))
+}
+
+// The sums of the products, as integers.
+#[inline(always)]
+fn unreduced_rows<const W: usize>(
+    l: &(BabyBear<W>, BabyBear<W>, BabyBear<W>, BabyBear<W>),
+    rows: &(Simd<u32, 4>, Simd<u32, 4>, Simd<u32, 4>, Simd<u32, 4>),
+) -> Simd<u64, 4>
+    requires first { (j : ℕ) → j < 4 → slice_index rows.now.0 j < MODULUS }
+    requires second { (j : ℕ) → j < 4 → slice_index rows.now.1 j < MODULUS }
+    requires third { (j : ℕ) → j < 4 → slice_index rows.now.2 j < MODULUS }
+    requires fourth { (j : ℕ) → j < 4 → slice_index rows.now.3 j < MODULUS }
+    ensures value { (j : ℕ) → j < 4 → slice_index result j
+        ≡ canonical l.now.0 * slice_index rows.now.0 j + canonical l.now.1 * slice_index rows.now.1 j
+        + (canonical l.now.2 * slice_index rows.now.2 j + canonical l.now.3 * slice_index rows.now.3 j) }
+    ensures small { (j : ℕ) → j < 4 → slice_index result j < 4 * MODULUS * MODULUS }
+{
     let low = wide_sums(
         residue_products(all(l.0.value), rows.0),
         residue_products(all(l.1.value), rows.1),
@@ -32,7 +68,42 @@ pub fn sum_of_rows<const W: usize>(
         residue_products(all(l.2.value), rows.2),
         residue_products(all(l.3.value), rows.3),
     );
-    reduce_each_word(wide_sums(low, high))
+    wide_sums(low, high)
+}
+
+/// The elements with these least residues.
+#[inline(always)]
+pub fn elements_of<const W: usize>(
+    residues: Simd<u32, 4>,
+) -> (BabyBear<W>, BabyBear<W>, BabyBear<W>, BabyBear<W>)
+    requires { (j : ℕ) → j < 4 → slice_index residues j < MODULUS }
+    ensures first { canonical result.0 ≡ slice_index residues 0 }
+    ensures second { canonical result.1 ≡ slice_index residues 1 }
+    ensures third { canonical result.2 ≡ slice_index residues 2 }
+    ensures fourth { canonical result.3 ≡ slice_index residues 3 }
+{
+    let words = residues.to_array();
+    (
+        BabyBear { value: words[0] },
+        BabyBear { value: words[1] },
+        BabyBear { value: words[2] },
+        BabyBear { value: words[3] },
+    )
+}
+
+/// The sums of the residues at four places from `k` on.
+#[inline(always)]
+pub fn residue_sums_at<const W: usize>(
+    a: &[BabyBear<W>],
+    b: &[BabyBear<W>],
+    k: usize,
+) -> Simd<u32, 4>
+    requires left { k + 3 < length a.now }
+    requires right { k + 3 < length b.now }
+    ensures { (j : ℕ) → j < 4 → slice_index result j ≡ (residue_at a.now (k + j) + residue_at b.now (k + j)) % MODULUS }
+{
+    let unreduced = sums(words_at(a, k), words_at(b, k));
+    reduce_each_once(unreduced)
 }
 
 /// The residues of the sums of four products, at four places from `k` on.

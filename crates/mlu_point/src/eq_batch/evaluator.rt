@@ -1,19 +1,12 @@
 //! How shares of scalars are multiplied by a coordinate of their point.
 ghost use Rattle.std.specs.Prelude.{◌≡◌, replicate};
 
+use crate::evaluator::EqualityEvaluator;
 use mlu_ring::{
     Additive, Algebra, ExtensionField, Field, PackedFieldExtension, PackedValue,
     PrimeCharacteristicRing,
 };
 use std::marker::PhantomData;
-
-/// How a share is multiplied by a coordinate of its point.
-pub(super) trait EqualityEvaluator<C: Additive, S: PrimeCharacteristicRing> {
-    ghost image: { C → S };
-
-    fn multiply(share: S, coordinate: C) -> S
-        ensures { result ≡ S.ring.product share (image coordinate) };
-}
 
 /// An evaluator that multiplies a packed share as well: the coordinate stands in every lane.
 pub(super) trait PackedEvaluator<F: Field, C: Additive, EF: ExtensionField<F>>: EqualityEvaluator<

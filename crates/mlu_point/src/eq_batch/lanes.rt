@@ -5,8 +5,9 @@ ghost use Rattle.mlu_ring.specs.Matrices.{batch, column, left_by};
 ghost use Rattle.mlu_ring.specs.Tables.{weights};
 ghost use Rattle.mlu_point.specs.Batches.{with_batch};
 
-use super::evaluator::{EqualityEvaluator, InLanes, PackedEvaluator};
+use super::evaluator::{InLanes, PackedEvaluator};
 use super::shares::{split_shares, sum};
+use crate::evaluator::EqualityEvaluator;
 use mlu_ring::{
     Additive, ExtensionField, Field, PackedFieldExtension, PackedValue, PrimeCharacteristicRing,
     RowMajorMatrixView,

@@ -6,7 +6,9 @@ ghost use Rattle.mlu_ring.specs.Tables.{weights};
 ghost use Rattle.mlu_point.specs.Rules.{next_by};
 
 use super::{Poly, table_length};
-use mlu_point::point::{BitOrder, Successor, fill_equality_table};
+use mlu_point::point::{
+    BitOrder, Successor, fill_embedded_equality_table, fill_equality_table,
+};
 use mlu_ring::{
     Additive, Algebra, ExtensionField, Field, Lanewise, PackedFieldExtension, PackedValue,
     PrimeCharacteristicRing,
@@ -107,20 +109,7 @@ fn packed_table<F: Field, EF: ExtensionField<F>>(
     let (rest, last) = point.split_at(point.len() - <F::Packing as PackedValue>::LOG_WIDTH);
     let lanes = Poly::new_from_point(alloc, last, scale)?;
     let seed = EF::ExtensionPacking::from_ext_slice(lanes.as_slice());
-    let coordinates = splats::<F, EF>(alloc, rest)?;
-    Poly::new_from_point(alloc, coordinates.as_slice(), seed)
-}
-
-/// Each element in every lane of a packed one.
-fn splats<F: Field, EF: ExtensionField<F>>(
-    alloc: Global,
-    elements: &[EF],
-) -> Result<Vec<EF::ExtensionPacking>, AllocError>
-    ensures { IfOk result (λ packed. packed.items ≡ map ⟦<EF::ExtensionPacking as Algebra<EF>>⟧.embed elements.now) }
-{
-    let mut packed = EF::ExtensionPacking::zero_vec(alloc, elements.len())?;
-    for i in 0..elements.len() {
-        packed[i] = <EF::ExtensionPacking as Algebra<EF>>::from_base(elements[i]);
-    }
-    Ok(packed)
+    let mut evals = EF::ExtensionPacking::zero_vec(alloc, table_length(rest.len()))?;
+    fill_embedded_equality_table(evals.as_mut_slice(), rest, BitOrder::Msb, seed);
+    Ok(Poly::new(evals))
 }

@@ -20,17 +20,18 @@ loop-i-preserved g c =
     let weights = c.args.weights.now in
     let lanes = logical ext.ext_lanes weights in
     let table = map (ring.product c.args.factor) lanes in
-    let factors = c.from_base-factors.result in
+    let factors = g.EF.ExtensionPacking.Algebra-1.embed c.args.factor in
+    let weight = c.index-weights-i.result in
     let many = length-map lanes (ring.product c.args.factor) ∙ length-logical ext.ext_lanes n met.lanes_are.length-parts weights in
-    let added = g.met.EF.ExtensionPacking.Additive.adds c.from_ext_slice.result c.mul.result c.add-sum.result c.add-sum.ensures in
-    let multiplied = g.met.EF.ExtensionPacking.PrimeCharacteristicRing.multiplies factors c.index-weights-i.result c.mul.result c.mul.ensures in
-    let splat = ap ext.ext_lanes c.from_base-factors.ensures ∙ met.embeds_element c.args.factor in
+    let added = g.met.EF.ExtensionPacking.Additive.adds c.from_ext_slice.result c.scale-scaled.result c.add-sum.result c.add-sum.ensures in
+    let multiplied = c.scale-scaled.ensures ∙ g.met.EF.ExtensionPacking.Additive.laws.product_comm weight factors in
+    let splat = met.embeds_element c.args.factor in
     let group = c.from_ext_slice.ensures ∙ block c.loop-i.out c.loop-i.i v ∙ ap (λ k. take k (drop (c.loop-i.i * k) c.loop-i.out)) c.WIDTH-width.ensures in
     zip_block_step ring.sum c.args.out.now table c.loop-i.out c.store_ext.new.out c.loop-i.i (length weights) v n
     c.loop-i-test.true c.requires (c.requires ∙ sym many) c.WIDTH-width.ensures c.loop-i.invariant
     (c.store_ext.ensures
     ∙ ap ext.ext_lanes (added ∙ ap (packed.sum c.from_ext_slice.result) multiplied)
-    ∙ lanes-added packed ring ext.ext_lanes ext.of_ext_lanes n met.lanes_are met.lane_by_lane c.from_ext_slice.result factors c.index-weights-i.result weights c.loop-i.i c.args.factor c.loop-i-test.true c.index-weights-i.is splat
+    ∙ lanes-added packed ring ext.ext_lanes ext.of_ext_lanes n met.lanes_are met.lane_by_lane c.from_ext_slice.result factors weight weights c.loop-i.i c.args.factor c.loop-i-test.true c.index-weights-i.is splat
     ∙ ap (λ vs. zip2 ring.sum vs (take n (drop (c.loop-i.i * n) table))) group)
 
 pub returns : goal.returns

@@ -31,19 +31,20 @@ loop-j-preserved g c =
     let long = length-logical ext.ext_lanes n met.lanes_are.length-parts weights in
     let places = length-logical ext.ext_lanes n met.lanes_are.length-parts c.args.out.now ∙ ap (λ k. k * n) c.requires ∙ mul_assoc (length c.args.eq0.now) m n ∙ ap (λ k. length c.args.eq0.now * k) (sym long) in
     let many = length-map table (ring.product c.args.scale) ∙ length-contents ring c.args.eq0.now w in
-    let multiplied = g.met.EF.PrimeCharacteristicRing.multiplies c.args.scale x c.mul.result c.mul.ensures in
-    let splat = ap ext.ext_lanes c.from_base-factor.ensures ∙ met.embeds_element c.mul.result in
+    let multiplied = g.met.EF.PrimeCharacteristicRing.multiplies c.args.scale x c.mul-factor.result c.mul-factor.ensures in
+    let factor = g.EF.ExtensionPacking.Algebra-1.embed c.mul-factor.result in
+    let splat = met.embeds_element c.mul-factor.result in
     let size = length-block c.loop-j.out j (length c.args.eq0.now) m c.loop-j-test.true (c.loop-j.auto.out ∙ c.requires) in
     let row =
     ap (logical ext.ext_lanes)
-    (c.add_multiple.ensures ∙ ap (λ ps. zip2 packed.sum ps (map (packed.product c.from_base-factor.result) weights)) (block c.loop-j.out j m))
-    ∙ logical-added packed ring ext.ext_lanes ext.of_ext_lanes n met.lanes_are met.lane_by_lane (take m (drop (j * m) c.loop-j.out)) weights c.from_base-factor.result c.mul.result splat size
-    ∙ ap (λ vs. zip2 ring.sum vs (map (ring.product c.mul.result) w))
+    (c.add_scaled_each.ensures ∙ ap (λ ps. zip2 packed.sum ps (map (packed.product factor) weights)) (block c.loop-j.out j m))
+    ∙ logical-added packed ring ext.ext_lanes ext.of_ext_lanes n met.lanes_are met.lane_by_lane (take m (drop (j * m) c.loop-j.out)) weights factor c.mul-factor.result splat size
+    ∙ ap (λ vs. zip2 ring.sum vs (map (ring.product c.mul-factor.result) w))
     (logical-block ext.ext_lanes n met.lanes_are.length-parts c.loop-j.out j m ∙ ap (λ k. take k (drop (j * k) out)) (sym long))
     ∙ ap (λ vs. zip2 ring.sum (take (length w) (drop (j * length w) out)) vs)
     (ap (λ y. map (ring.product y) w) multiplied ∙ scaled_row ring g.met.EF.Additive.laws c.args.eq0.now w c.args.scale x j c.loop-j-test.true c.index-eq0-j.is) in
-    logical-written ext.ext_lanes n met.lanes_are.length-parts c.loop-j.out c.add_multiple.new.out j m
-    ∙ zip_block_step ring.sum old scaled out (logical ext.ext_lanes c.add_multiple.new.out) j (length c.args.eq0.now) (m * n) (length w)
+    logical-written ext.ext_lanes n met.lanes_are.length-parts c.loop-j.out c.add_scaled_each.new.out j m
+    ∙ zip_block_step ring.sum old scaled out (logical ext.ext_lanes c.add_scaled_each.new.out) j (length c.args.eq0.now) (m * n) (length w)
     c.loop-j-test.true places (places ∙ sym many) (sym long) c.loop-j.invariant row
 
 pub returns : goal.returns

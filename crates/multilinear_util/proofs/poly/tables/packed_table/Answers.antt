@@ -25,13 +25,13 @@ from_ext_slice-seed-requires g c =
     ∙ ap (λ n. 2 ^ n) size
     ∙ sym width
 
-pub new_from_point-requires-2 : goal.new_from_point-requires-2
-new_from_point-requires-2 g c =
-    let embed = g.EF.ExtensionPacking.Algebra-1.embed in
-    let rest = c.split_at.result.0.now in
-    let size : length c.as_slice-2.result.now ≡ length rest = ap length c.as_slice-2.ensures.value ∙ ap length c.in_ok-coordinates.ensures ∙ length-map rest embed in
+pub table_length-requires : goal.table_length-requires
+table_length-requires g c =
     let shorter = c.split_at.ensures.front_len in
-    grind (arith, pow_mono {i = length c.as_slice-2.result.now} {j = length c.args.point.now}, size, shorter, c.requires.fits)
+    grind (arith, pow_mono {i = length c.split_at.result.0.now} {j = length c.args.point.now}, shorter, c.requires.fits)
+
+pub fill_embedded_equality_table-requires : goal.fill_embedded_equality_table-requires
+fill_embedded_equality_table-requires g c = ap length c.in_ok-evals.ensures ∙ length-replicate c.table_length.result g.EF.ExtensionPacking.Additive.ring.zero ∙ c.table_length.ensures
 
 pub returns : goal.returns
 returns g c =

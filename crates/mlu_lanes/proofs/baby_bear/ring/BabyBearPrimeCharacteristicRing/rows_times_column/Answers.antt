@@ -12,7 +12,7 @@ loop-g-preserved g c =
     let column = c.args.column.now in
     let n = 4 * c.loop-g.g in
     let sum = row_at_times l.0.now l.1.now l.2.now l.3.now column.0 column.1 column.2 column.3 in
-    let factors = c.prepared.ensures in
+    let factors = c.prepared-factors.ensures in
     let sums = c.prepared_sums_at.ensures in
     let first : n + 0 ≡ n = omega arith in
     let next : 4 * (c.loop-g.g + 1) ≡ 4 * c.loop-g.g + 4 = omega arith in
@@ -20,8 +20,8 @@ loop-g-preserved g c =
     record {
       long = rw (length-set, length-set, length-set, length-set) c.loop-g.invariant.long;
       filled = filled_by_four (reduced 0) c.loop-g.out sum n (4 * (c.loop-g.g + 1)) _ _ _ _ next room c.loop-g.invariant.filled
-          (prepared_once _ _ _ _ column.0 column.1 column.2 column.3 _ _ _ _ _ (factors 0 (lit< tt)) (factors 1 (lit< tt)) (factors 2 (lit< tt)) (factors 3 (lit< tt)) (sums.value 0 (lit< tt)) ∙ ap sum first)
-          (prepared_once _ _ _ _ column.0 column.1 column.2 column.3 _ _ _ _ _ (factors 0 (lit< tt)) (factors 1 (lit< tt)) (factors 2 (lit< tt)) (factors 3 (lit< tt)) (sums.value 1 (lit< tt)))
-          (prepared_once _ _ _ _ column.0 column.1 column.2 column.3 _ _ _ _ _ (factors 0 (lit< tt)) (factors 1 (lit< tt)) (factors 2 (lit< tt)) (factors 3 (lit< tt)) (sums.value 2 (lit< tt)))
-          (prepared_once _ _ _ _ column.0 column.1 column.2 column.3 _ _ _ _ _ (factors 0 (lit< tt)) (factors 1 (lit< tt)) (factors 2 (lit< tt)) (factors 3 (lit< tt)) (sums.value 3 (lit< tt)));
+          (prepared_once _ _ _ _ column.0 column.1 column.2 column.3 _ _ _ _ _ factors.first factors.second factors.third factors.fourth (sums.value 0 (lit< tt)) ∙ ap sum first)
+          (prepared_once _ _ _ _ column.0 column.1 column.2 column.3 _ _ _ _ _ factors.first factors.second factors.third factors.fourth (sums.value 1 (lit< tt)))
+          (prepared_once _ _ _ _ column.0 column.1 column.2 column.3 _ _ _ _ _ factors.first factors.second factors.third factors.fourth (sums.value 2 (lit< tt)))
+          (prepared_once _ _ _ _ column.0 column.1 column.2 column.3 _ _ _ _ _ factors.first factors.second factors.third factors.fourth (sums.value 3 (lit< tt)));
     }

@@ -1,0 +1,9 @@
+-- Each coefficient of the product is a sum of four products.
+use Rattle.mlu_ext.proofs.QuarticSums.{product-rows}
+use Rattle.mlu_ext.proofs.quartic.ring.QuarticExtensionPrimeCharacteristicRing.times_fixed.Goals as goal
+
+pub returns : goal.returns
+returns g c =
+    product-rows g.R.Additive.ring g.met.R.Additive.laws c.args.self c.args.factor _ _ _ _ _ _ _ c.times_eleven-r1.ensures c.times_eleven-r2.ensures c.times_eleven-r3.ensures
+    (c.row_times_fixed_columns-product.ensures.first) (c.row_times_fixed_columns-product.ensures.second)
+    (c.row_times_fixed_columns-product.ensures.third) (c.row_times_fixed_columns-product.ensures.fourth)
