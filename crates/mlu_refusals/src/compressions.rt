@@ -1,7 +1,7 @@
 //! Compressions of a polynomial at the point (2).
 ghost use Rattle.std.specs.Prelude.{◌≡◌, length};
 
-use crate::given::{is_poly, poly, short_point};
+use crate::given::{Receiver, is_poly, poly, short_point};
 use crate::outcome::{Outcome, judge};
 use crate::residues::{Call as AnyCall, tried};
 use mlu_point::point::Point;
@@ -13,9 +13,9 @@ use std::test::Fail;
 
 #[derive(Clone, Copy)]
 pub enum Call {
-    Prefix,
-    PrefixToPacked,
-    Suffix,
+    Prefix(Receiver),
+    PrefixToPacked(Receiver),
+    Suffix(Receiver),
 }
 
 /// What becomes of the call. Fails where its inputs are refused.
@@ -28,27 +28,32 @@ pub fn made<F: Field, EF: ExtensionField<F>>(
     let point = short_point::<EF>(alloc)?;
     let poly = poly::<F>(alloc)?;
     let answered = match call {
-        Call::Prefix => prefix(alloc, &poly, &point),
-        Call::PrefixToPacked => prefix_to_packed(alloc, &poly, &point),
-        Call::Suffix => suffix(alloc, &poly, &point),
+        Call::Prefix(receiver) => prefix(alloc, receiver, &poly, &point),
+        Call::PrefixToPacked(receiver) => prefix_to_packed(alloc, receiver, &poly, &point),
+        Call::Suffix(receiver) => suffix(alloc, receiver, &poly, &point),
     };
     Ok(judge(answered, is_poly(poly.as_slice())))
 }
 
 fn prefix<F: Field, EF: ExtensionField<F>>(
     alloc: Global,
+    receiver: Receiver,
     poly: &Poly<F>,
     point: &Point<EF>,
 ) -> Result<bool, AllocError>
     requires poly { length poly.now ≡ 8 }
     requires point { length point.now ≡ 1 }
 {
-    let left = poly.compress_prefix(alloc, point, EF::ONE)?;
+    let left = match receiver {
+        Receiver::Owner => poly.compress_prefix(alloc, point, EF::ONE),
+        Receiver::View => poly.as_view().compress_prefix(alloc, point, EF::ONE),
+    }?;
     Ok(are(left.as_slice(), &[9, 10, 11, 12]))
 }
 
 fn prefix_to_packed<F: Field, EF: ExtensionField<F>>(
     alloc: Global,
+    receiver: Receiver,
     poly: &Poly<F>,
     point: &Point<EF>,
 ) -> Result<bool, AllocError>
@@ -56,7 +61,12 @@ fn prefix_to_packed<F: Field, EF: ExtensionField<F>>(
     requires poly { length poly.now ≡ 8 }
     requires point { length point.now ≡ 1 }
 {
-    let left = poly.compress_prefix_to_packed(alloc, point, EF::ONE)?;
+    let left = match receiver {
+        Receiver::Owner => poly.compress_prefix_to_packed(alloc, point, EF::ONE),
+        Receiver::View => poly
+            .as_view()
+            .compress_prefix_to_packed(alloc, point, EF::ONE),
+    }?;
     Ok(has_lanes::<F, EF>(left.as_slice(), &[9, 10, 11, 12]))
 }
 
@@ -76,13 +86,17 @@ pub fn has_lanes<F: Field, EF: ExtensionField<F>>(
 
 fn suffix<F: Field, EF: ExtensionField<F>>(
     alloc: Global,
+    receiver: Receiver,
     poly: &Poly<F>,
     point: &Point<EF>,
 ) -> Result<bool, AllocError>
     requires poly { length poly.now ≡ 8 }
     requires point { length point.now ≡ 1 }
 {
-    let left = poly.compress_suffix(alloc, point, EF::ONE)?;
+    let left = match receiver {
+        Receiver::Owner => poly.compress_suffix(alloc, point, EF::ONE),
+        Receiver::View => poly.as_view().compress_suffix(alloc, point, EF::ONE),
+    }?;
     Ok(are(left.as_slice(), &[3, 5, 7, 9]))
 }
 
@@ -91,7 +105,7 @@ fn prefix_compressed_to_packed(rt: HostRuntime) -> Result<(), Fail> {
     tried(
         &rt,
         "Poly::compress_prefix_to_packed",
-        AnyCall::Compression(Call::PrefixToPacked),
+        AnyCall::Compression(Call::PrefixToPacked(Receiver::Owner)),
     )
 }
 
@@ -100,7 +114,7 @@ fn prefix_compressed_at_a_point(rt: HostRuntime) -> Result<(), Fail> {
     tried(
         &rt,
         "Poly::compress_prefix",
-        AnyCall::Compression(Call::Prefix),
+        AnyCall::Compression(Call::Prefix(Receiver::Owner)),
     )
 }
 
@@ -109,6 +123,33 @@ fn suffix_compressed_at_a_point(rt: HostRuntime) -> Result<(), Fail> {
     tried(
         &rt,
         "Poly::compress_suffix",
-        AnyCall::Compression(Call::Suffix),
+        AnyCall::Compression(Call::Suffix(Receiver::Owner)),
+    )
+}
+
+#[test]
+fn prefix_of_a_view_compressed_to_packed(rt: HostRuntime) -> Result<(), Fail> {
+    tried(
+        &rt,
+        "PolyView::compress_prefix_to_packed",
+        AnyCall::Compression(Call::PrefixToPacked(Receiver::View)),
+    )
+}
+
+#[test]
+fn prefix_of_a_view_compressed(rt: HostRuntime) -> Result<(), Fail> {
+    tried(
+        &rt,
+        "PolyView::compress_prefix",
+        AnyCall::Compression(Call::Prefix(Receiver::View)),
+    )
+}
+
+#[test]
+fn suffix_of_a_view_compressed(rt: HostRuntime) -> Result<(), Fail> {
+    tried(
+        &rt,
+        "PolyView::compress_suffix",
+        AnyCall::Compression(Call::Suffix(Receiver::View)),
     )
 }

@@ -1,6 +1,7 @@
 //! Evaluations below the threshold, which do not fail, and from it on.
 ghost use Rattle.std.specs.Prelude.{◌≡◌, length, IfOk};
 
+use crate::given::Receiver;
 use crate::outcome::{Outcome, is_served, judge};
 use crate::residues::{Call as AnyCall, residues, tried};
 use mlu_point::point::Point;
@@ -13,11 +14,10 @@ use std::test::Fail;
 #[derive(Clone, Copy)]
 pub enum Call {
     Below,
-    EvalBase,
+    EvalBase(Receiver),
     EvalBaseOfTen,
-    EvalExt,
-    EvalStorage,
-    EvalStorageView,
+    EvalExt(Receiver),
+    EvalStorage(Receiver),
     CloneStorage,
 }
 
@@ -28,11 +28,10 @@ pub fn made<F: Field, EF: ExtensionField<F>>(
 ) -> Result<Outcome, AllocError> {
     match call {
         Call::Below => below::<F, EF>(alloc),
-        Call::EvalBase => eval_base::<F, EF>(alloc),
+        Call::EvalBase(receiver) => eval_base::<F, EF>(alloc, receiver),
         Call::EvalBaseOfTen => eval_base_of_ten::<F, EF>(alloc),
-        Call::EvalExt => eval_ext::<F, EF>(alloc),
-        Call::EvalStorage => eval_storage::<F, EF>(alloc),
-        Call::EvalStorageView => eval_storage_view::<F, EF>(alloc),
+        Call::EvalExt(receiver) => eval_ext::<F, EF>(alloc, receiver),
+        Call::EvalStorage(receiver) => eval_storage::<F, EF>(alloc, receiver),
         Call::CloneStorage => clone_storage::<F, EF>(alloc),
     }
 }
@@ -78,10 +77,17 @@ fn below<F: Field, EF: ExtensionField<F>>(alloc: Global) -> Result<Outcome, Allo
     Ok(judge(Ok(of_base), of_extension))
 }
 
-fn eval_base<F: Field, EF: ExtensionField<F>>(alloc: Global) -> Result<Outcome, AllocError> {
+fn eval_base<F: Field, EF: ExtensionField<F>>(
+    alloc: Global,
+    receiver: Receiver,
+) -> Result<Outcome, AllocError> {
     let poly = counted::<F>(alloc, 512)?;
     let point = long_point::<EF>(alloc)?;
-    Ok(valued(poly.eval_base(alloc, &point), 1022))
+    let answer = match receiver {
+        Receiver::Owner => poly.eval_base(alloc, &point),
+        Receiver::View => poly.as_view().eval_base(alloc, &point),
+    };
+    Ok(valued(answer, 1022))
 }
 
 /// At ten variables, the threshold of words.
@@ -91,25 +97,31 @@ fn eval_base_of_ten<F: Field, EF: ExtensionField<F>>(alloc: Global) -> Result<Ou
     Ok(valued(poly.eval_base(alloc, &point), 2046))
 }
 
-fn eval_ext<F: Field, EF: ExtensionField<F>>(alloc: Global) -> Result<Outcome, AllocError> {
+fn eval_ext<F: Field, EF: ExtensionField<F>>(
+    alloc: Global,
+    receiver: Receiver,
+) -> Result<Outcome, AllocError> {
     let poly = counted::<EF>(alloc, 512)?;
     let point = long_point::<EF>(alloc)?;
-    Ok(valued(poly.eval_ext::<F>(alloc, &point), 1022))
+    let answer = match receiver {
+        Receiver::Owner => poly.eval_ext::<F>(alloc, &point),
+        Receiver::View => poly.as_view().eval_ext::<F>(alloc, &point),
+    };
+    Ok(valued(answer, 1022))
 }
 
 /// A scalar storage from the threshold on, where its evaluation takes memory.
-fn eval_storage<F: Field, EF: ExtensionField<F>>(alloc: Global) -> Result<Outcome, AllocError> {
-    let storage: PolyMaybePacked<F, EF> = PolyMaybePacked::Scalar(counted::<EF>(alloc, 512)?);
-    let point = long_point::<EF>(alloc)?;
-    Ok(valued(storage.eval(alloc, &point), 1022))
-}
-
-fn eval_storage_view<F: Field, EF: ExtensionField<F>>(
+fn eval_storage<F: Field, EF: ExtensionField<F>>(
     alloc: Global,
+    receiver: Receiver,
 ) -> Result<Outcome, AllocError> {
     let storage: PolyMaybePacked<F, EF> = PolyMaybePacked::Scalar(counted::<EF>(alloc, 512)?);
     let point = long_point::<EF>(alloc)?;
-    Ok(valued(storage.as_view().eval(alloc, &point), 1022))
+    let answer = match receiver {
+        Receiver::Owner => storage.eval(alloc, &point),
+        Receiver::View => storage.as_view().eval(alloc, &point),
+    };
+    Ok(valued(answer, 1022))
 }
 
 fn clone_storage<F: Field, EF: ExtensionField<F>>(alloc: Global) -> Result<Outcome, AllocError> {
@@ -122,12 +134,38 @@ fn clone_storage<F: Field, EF: ExtensionField<F>>(alloc: Global) -> Result<Outco
 
 #[test]
 fn value_of_base_elements(rt: HostRuntime) -> Result<(), Fail> {
-    tried(&rt, "Poly::eval_base", AnyCall::Evaluation(Call::EvalBase))
+    tried(
+        &rt,
+        "Poly::eval_base",
+        AnyCall::Evaluation(Call::EvalBase(Receiver::Owner)),
+    )
 }
 
 #[test]
 fn value_of_extension_elements(rt: HostRuntime) -> Result<(), Fail> {
-    tried(&rt, "Poly::eval_ext", AnyCall::Evaluation(Call::EvalExt))
+    tried(
+        &rt,
+        "Poly::eval_ext",
+        AnyCall::Evaluation(Call::EvalExt(Receiver::Owner)),
+    )
+}
+
+#[test]
+fn value_of_borrowed_base_elements(rt: HostRuntime) -> Result<(), Fail> {
+    tried(
+        &rt,
+        "PolyView::eval_base",
+        AnyCall::Evaluation(Call::EvalBase(Receiver::View)),
+    )
+}
+
+#[test]
+fn value_of_borrowed_extension_elements(rt: HostRuntime) -> Result<(), Fail> {
+    tried(
+        &rt,
+        "PolyView::eval_ext",
+        AnyCall::Evaluation(Call::EvalExt(Receiver::View)),
+    )
 }
 
 #[test]
@@ -135,7 +173,7 @@ fn value_of_storage(rt: HostRuntime) -> Result<(), Fail> {
     tried(
         &rt,
         "PolyMaybePacked::eval",
-        AnyCall::Evaluation(Call::EvalStorage),
+        AnyCall::Evaluation(Call::EvalStorage(Receiver::Owner)),
     )
 }
 
@@ -144,7 +182,7 @@ fn value_of_borrowed_storage(rt: HostRuntime) -> Result<(), Fail> {
     tried(
         &rt,
         "PolyMaybePackedView::eval",
-        AnyCall::Evaluation(Call::EvalStorageView),
+        AnyCall::Evaluation(Call::EvalStorage(Receiver::View)),
     )
 }
 
@@ -168,7 +206,7 @@ fn value_of_words(rt: HostRuntime) -> Result<(), Fail> {
 
 #[test]
 fn words_below_the_threshold(rt: HostRuntime) {
-    assert!(rt; is_served(residues(rt.alloc(), AnyCall::Words(Call::EvalBase))));
+    assert!(rt; is_served(residues(rt.alloc(), AnyCall::Words(Call::EvalBase(Receiver::Owner)))));
 }
 
 #[test]

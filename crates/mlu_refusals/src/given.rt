@@ -7,6 +7,15 @@ use mlu_test_support::numbers::{are, elements};
 use multilinear_util::poly::Poly;
 use std::alloc::{AllocError, Global};
 
+/// What a call is made on.
+#[derive(Clone, Copy)]
+pub enum Receiver {
+    /// What owns the values.
+    Owner,
+    /// A view of it.
+    View,
+}
+
 /// The point (2, 3, 5).
 pub fn point<R: Additive>(alloc: Global) -> Result<Point<R>, AllocError>
     ensures three { IfOk result (λ point. length point ≡ 3) }

@@ -1,7 +1,7 @@
 //! Calls that pack, and calls of what is packed.
 ghost use Rattle.std.specs.Prelude.{◌≡◌, ◌*◌, length};
 
-use crate::given::{is_poly, packed, point, poly};
+use crate::given::{Receiver, is_poly, packed, point, poly};
 use crate::outcome::{Outcome, judge};
 use crate::residues::{Call as AnyCall, tried};
 use mlu_point::point::Point;
@@ -13,10 +13,10 @@ use std::test::Fail;
 
 #[derive(Clone, Copy)]
 pub enum Call {
-    Pack,
-    Unpack,
+    Pack(Receiver),
+    Unpack(Receiver),
     UnpackStorage,
-    EvalPacked,
+    EvalPacked(Receiver),
 }
 
 /// What becomes of the call. Fails where its inputs are refused.
@@ -27,37 +27,61 @@ pub fn made<F: Field, EF: ExtensionField<F>>(
     requires { F.Packing.WIDTH ≡ 4 }
 {
     match call {
-        Call::Pack => pack::<F, EF>(alloc),
-        Call::Unpack => unpack::<F, EF>(alloc),
+        Call::Pack(receiver) => pack::<F, EF>(alloc, receiver),
+        Call::Unpack(receiver) => unpack::<F, EF>(alloc, receiver),
         Call::UnpackStorage => unpack_storage::<F, EF>(alloc),
-        Call::EvalPacked => eval_packed::<F, EF>(alloc),
+        Call::EvalPacked(receiver) => eval_packed::<F, EF>(alloc, receiver),
     }
 }
 
-fn pack<F: Field, EF: ExtensionField<F>>(alloc: Global) -> Result<Outcome, AllocError>
+/// Whether the values are packed.
+fn is_packed<F: Field, EF: ExtensionField<F>>(
+    alloc: Global,
+    receiver: Receiver,
+    poly: &Poly<EF>,
+) -> Result<bool, AllocError>
+    requires lanes { F.Packing.WIDTH ≡ 4 }
+    requires poly { length poly.now ≡ 8 }
+{
+    let packed = match receiver {
+        Receiver::Owner => poly.pack::<F, EF>(alloc),
+        Receiver::View => poly.as_view().pack::<F, EF>(alloc),
+    }?;
+    Ok(packed.num_evals() == 2)
+}
+
+fn pack<F: Field, EF: ExtensionField<F>>(
+    alloc: Global,
+    receiver: Receiver,
+) -> Result<Outcome, AllocError>
     requires { F.Packing.WIDTH ≡ 4 }
 {
     let poly = poly::<EF>(alloc)?;
-    let answered = match poly.pack::<F, EF>(alloc) {
-        Ok(packed) => Ok(packed.num_evals() == 2),
-        Err(refused) => Err(refused),
-    };
+    let answered = is_packed::<F, EF>(alloc, receiver, &poly);
     Ok(judge(answered, is_poly(poly.as_slice())))
 }
 
 /// Whether the lanes are unpacked.
-fn unpacked<F: Field, EF: ExtensionField<F>>(
+fn is_unpacked<F: Field, EF: ExtensionField<F>>(
     alloc: Global,
+    receiver: Receiver,
     packed: &Poly<EF::ExtensionPacking>,
 ) -> Result<bool, AllocError> {
-    Ok(is_poly(packed.unpack::<F, EF>(alloc)?.as_slice()))
+    let poly = match receiver {
+        Receiver::Owner => packed.unpack::<F, EF>(alloc),
+        Receiver::View => packed.as_view().unpack::<F, EF>(alloc),
+    }?;
+    Ok(is_poly(poly.as_slice()))
 }
 
-fn unpack<F: Field, EF: ExtensionField<F>>(alloc: Global) -> Result<Outcome, AllocError>
+fn unpack<F: Field, EF: ExtensionField<F>>(
+    alloc: Global,
+    receiver: Receiver,
+) -> Result<Outcome, AllocError>
     requires { F.Packing.WIDTH ≡ 4 }
 {
     let packed = packed::<F, EF>(alloc)?;
-    Ok(judge(unpacked::<F, EF>(alloc, &packed), true))
+    Ok(judge(is_unpacked::<F, EF>(alloc, receiver, &packed), true))
 }
 
 /// Whether the storage has the values 1, 2, .., 8.
@@ -66,7 +90,7 @@ fn stores_poly<F: Field, EF: ExtensionField<F>>(
     table: &PolyMaybePacked<F, EF>,
 ) -> Result<bool, AllocError> {
     match table {
-        PolyMaybePacked::Packed(packed) => unpacked::<F, EF>(alloc, packed),
+        PolyMaybePacked::Packed(packed) => is_unpacked::<F, EF>(alloc, Receiver::Owner, packed),
         PolyMaybePacked::Scalar(poly) => Ok(is_poly(poly.as_slice())),
     }
 }
@@ -84,31 +108,48 @@ fn unpack_storage<F: Field, EF: ExtensionField<F>>(alloc: Global) -> Result<Outc
 
 fn value_of_lanes<F: Field, EF: ExtensionField<F>>(
     alloc: Global,
+    receiver: Receiver,
     packed: &Poly<EF::ExtensionPacking>,
     point: &Point<EF>,
 ) -> Result<bool, AllocError>
     requires lanes { length packed.now * F.Packing.WIDTH ≡ 8 }
     requires point { length point.now ≡ 3 }
 {
-    Ok(packed.eval_packed::<F, EF>(alloc, point)? == element(20))
+    let value = match receiver {
+        Receiver::Owner => packed.eval_packed::<F, EF>(alloc, point),
+        Receiver::View => packed.as_view().eval_packed::<F, EF>(alloc, point),
+    }?;
+    Ok(value == element(20))
 }
 
-fn eval_packed<F: Field, EF: ExtensionField<F>>(alloc: Global) -> Result<Outcome, AllocError>
+fn eval_packed<F: Field, EF: ExtensionField<F>>(
+    alloc: Global,
+    receiver: Receiver,
+) -> Result<Outcome, AllocError>
     requires { F.Packing.WIDTH ≡ 4 }
 {
     let point = point::<EF>(alloc)?;
     let packed = packed::<F, EF>(alloc)?;
-    Ok(judge(value_of_lanes::<F, EF>(alloc, &packed, &point), true))
+    let answered = value_of_lanes::<F, EF>(alloc, receiver, &packed, &point);
+    Ok(judge(answered, true))
 }
 
 #[test]
 fn packed_poly(rt: HostRuntime) -> Result<(), Fail> {
-    tried(&rt, "Poly::pack", AnyCall::Packing(Call::Pack))
+    tried(
+        &rt,
+        "Poly::pack",
+        AnyCall::Packing(Call::Pack(Receiver::Owner)),
+    )
 }
 
 #[test]
 fn unpacked_poly(rt: HostRuntime) -> Result<(), Fail> {
-    tried(&rt, "Poly::unpack", AnyCall::Packing(Call::Unpack))
+    tried(
+        &rt,
+        "Poly::unpack",
+        AnyCall::Packing(Call::Unpack(Receiver::Owner)),
+    )
 }
 
 #[test]
@@ -122,5 +163,36 @@ fn unpacked_storage(rt: HostRuntime) -> Result<(), Fail> {
 
 #[test]
 fn value_of_a_packed_poly(rt: HostRuntime) -> Result<(), Fail> {
-    tried(&rt, "Poly::eval_packed", AnyCall::Packing(Call::EvalPacked))
+    tried(
+        &rt,
+        "Poly::eval_packed",
+        AnyCall::Packing(Call::EvalPacked(Receiver::Owner)),
+    )
+}
+
+#[test]
+fn packed_view(rt: HostRuntime) -> Result<(), Fail> {
+    tried(
+        &rt,
+        "PolyView::pack",
+        AnyCall::Packing(Call::Pack(Receiver::View)),
+    )
+}
+
+#[test]
+fn unpacked_view(rt: HostRuntime) -> Result<(), Fail> {
+    tried(
+        &rt,
+        "PolyView::unpack",
+        AnyCall::Packing(Call::Unpack(Receiver::View)),
+    )
+}
+
+#[test]
+fn value_of_a_packed_view(rt: HostRuntime) -> Result<(), Fail> {
+    tried(
+        &rt,
+        "PolyView::eval_packed",
+        AnyCall::Packing(Call::EvalPacked(Receiver::View)),
+    )
 }

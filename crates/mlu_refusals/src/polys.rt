@@ -1,7 +1,7 @@
 //! Calls of a polynomial.
 ghost use Rattle.std.specs.Prelude.{◌≡◌, ◌≤◌, ◌<◌, length};
 
-use crate::given::{is_poly, point, poly};
+use crate::given::{Receiver, is_poly, point, poly};
 use crate::outcome::{Outcome, judge, written};
 use crate::residues::{Call as AnyCall, tried};
 use mlu_ring::{Additive, Algebra, ExtensionField, Field, PrimeCharacteristicRing, Sample};
@@ -19,10 +19,9 @@ pub enum Call {
     TryClone,
     NewFromPoint,
     NewPackedFromPoint,
-    FixPrefixVar,
-    FixPrefixVarToPacked,
-    FixSuffixVar,
-    FixSuffixVarOfView,
+    FixPrefixVar(Receiver),
+    FixPrefixVarToPacked(Receiver),
+    FixSuffixVar(Receiver),
     FixSuffixVarMutSplit,
 }
 
@@ -42,10 +41,11 @@ pub fn made<F: Field + Sample, EF: ExtensionField<F>>(
         Call::TryClone => try_clone(alloc, &poly),
         Call::NewFromPoint => new_from_point(alloc, poly.as_slice()),
         Call::NewPackedFromPoint => return new_packed_from_point::<F, EF>(alloc),
-        Call::FixPrefixVar => fix_prefix_var::<F, EF>(alloc, &poly),
-        Call::FixPrefixVarToPacked => fix_prefix_var_to_packed::<F, EF>(alloc, &poly),
-        Call::FixSuffixVar => fix_suffix_var::<F, EF>(alloc, &poly),
-        Call::FixSuffixVarOfView => fix_suffix_var_of_view::<F, EF>(alloc, &poly),
+        Call::FixPrefixVar(receiver) => fix_prefix_var::<F, EF>(alloc, receiver, &poly),
+        Call::FixPrefixVarToPacked(receiver) => {
+            fix_prefix_var_to_packed::<F, EF>(alloc, receiver, &poly)
+        }
+        Call::FixSuffixVar(receiver) => fix_suffix_var::<F, EF>(alloc, receiver, &poly),
         Call::FixSuffixVarMutSplit => return fix_suffix_var_mut_split::<F, EF>(alloc),
     };
     Ok(judge(answered, is_poly(poly.as_slice())))
@@ -111,48 +111,45 @@ fn packed_table<F: Field, EF: ExtensionField<F>>(
 
 fn fix_prefix_var<F: PrimeCharacteristicRing, EF: Algebra<F>>(
     alloc: Global,
+    receiver: Receiver,
     poly: &Poly<F>,
 ) -> Result<bool, AllocError>
     requires { length poly.now ≡ 8 }
 {
-    Ok(are(
-        poly.fix_prefix_var(alloc, EF::TWO)?.as_slice(),
-        &[9, 10, 11, 12],
-    ))
+    let left = match receiver {
+        Receiver::Owner => poly.fix_prefix_var(alloc, EF::TWO),
+        Receiver::View => poly.as_view().fix_prefix_var(alloc, EF::TWO),
+    }?;
+    Ok(are(left.as_slice(), &[9, 10, 11, 12]))
 }
 
 fn fix_prefix_var_to_packed<F: Field, EF: ExtensionField<F>>(
     alloc: Global,
+    receiver: Receiver,
     poly: &Poly<F>,
 ) -> Result<bool, AllocError>
     requires lanes { F.Packing.WIDTH ≡ 4 }
     requires poly { length poly.now ≡ 8 }
 {
-    Ok(poly.fix_prefix_var_to_packed(alloc, EF::TWO)?.num_evals() == 1)
+    let left = match receiver {
+        Receiver::Owner => poly.fix_prefix_var_to_packed(alloc, EF::TWO),
+        Receiver::View => poly.as_view().fix_prefix_var_to_packed(alloc, EF::TWO),
+    }?;
+    Ok(left.num_evals() == 1)
 }
 
 fn fix_suffix_var<F: PrimeCharacteristicRing, EF: Algebra<F>>(
     alloc: Global,
+    receiver: Receiver,
     poly: &Poly<F>,
 ) -> Result<bool, AllocError>
     requires { length poly.now ≡ 8 }
 {
-    Ok(are(
-        poly.fix_suffix_var(alloc, EF::TWO)?.as_slice(),
-        &[3, 5, 7, 9],
-    ))
-}
-
-fn fix_suffix_var_of_view<F: PrimeCharacteristicRing, EF: Algebra<F>>(
-    alloc: Global,
-    poly: &Poly<F>,
-) -> Result<bool, AllocError>
-    requires { length poly.now ≡ 8 }
-{
-    Ok(are(
-        poly.as_view().fix_suffix_var(alloc, EF::TWO)?.as_slice(),
-        &[3, 5, 7, 9],
-    ))
+    let left = match receiver {
+        Receiver::Owner => poly.fix_suffix_var(alloc, EF::TWO),
+        Receiver::View => poly.as_view().fix_suffix_var(alloc, EF::TWO),
+    }?;
+    Ok(are(left.as_slice(), &[3, 5, 7, 9]))
 }
 
 /// A refused fold leaves the polynomial as it was.
@@ -212,7 +209,7 @@ fn prefix_folded(rt: HostRuntime) -> Result<(), Fail> {
     tried(
         &rt,
         "Poly::fix_prefix_var",
-        AnyCall::Poly(Call::FixPrefixVar),
+        AnyCall::Poly(Call::FixPrefixVar(Receiver::Owner)),
     )
 }
 
@@ -221,7 +218,25 @@ fn prefix_folded_to_packed(rt: HostRuntime) -> Result<(), Fail> {
     tried(
         &rt,
         "Poly::fix_prefix_var_to_packed",
-        AnyCall::Poly(Call::FixPrefixVarToPacked),
+        AnyCall::Poly(Call::FixPrefixVarToPacked(Receiver::Owner)),
+    )
+}
+
+#[test]
+fn prefix_of_a_view_folded(rt: HostRuntime) -> Result<(), Fail> {
+    tried(
+        &rt,
+        "PolyView::fix_prefix_var",
+        AnyCall::Poly(Call::FixPrefixVar(Receiver::View)),
+    )
+}
+
+#[test]
+fn prefix_of_a_view_folded_to_packed(rt: HostRuntime) -> Result<(), Fail> {
+    tried(
+        &rt,
+        "PolyView::fix_prefix_var_to_packed",
+        AnyCall::Poly(Call::FixPrefixVarToPacked(Receiver::View)),
     )
 }
 
@@ -230,7 +245,7 @@ fn suffix_folded(rt: HostRuntime) -> Result<(), Fail> {
     tried(
         &rt,
         "Poly::fix_suffix_var",
-        AnyCall::Poly(Call::FixSuffixVar),
+        AnyCall::Poly(Call::FixSuffixVar(Receiver::Owner)),
     )
 }
 
@@ -239,7 +254,7 @@ fn suffix_of_a_view_folded(rt: HostRuntime) -> Result<(), Fail> {
     tried(
         &rt,
         "PolyView::fix_suffix_var",
-        AnyCall::Poly(Call::FixSuffixVarOfView),
+        AnyCall::Poly(Call::FixSuffixVar(Receiver::View)),
     )
 }
 

@@ -3,7 +3,7 @@ ghost use Rattle.std.specs.Prelude.{◌≡◌, length, IfOk};
 ghost use Rattle.multilinear_util.specs.Split.{split_entries};
 ghost use Rattle.multilinear_util.specs.Views.{entries};
 
-use crate::given::{is_poly, point, poly, short_point};
+use crate::given::{Receiver, is_poly, point, poly, short_point};
 use crate::outcome::{Outcome, judge};
 use crate::residues::{Call as AnyCall, tried};
 use mlu_point::point::{Point, Successor};
@@ -18,8 +18,8 @@ use std::test::Fail;
 pub enum Call {
     NewNextFromPoint,
     NewNextFromPointBy,
-    EvalNextBase,
-    EvalNextBaseBy,
+    EvalNextBase(Receiver),
+    EvalNextBaseBy(Receiver),
     CompressPrefixShifted,
     CompressSuffixShifted,
 }
@@ -33,8 +33,12 @@ pub fn made<F: Field, EF: ExtensionField<F>>(
     let answered = match call {
         Call::NewNextFromPoint => next_from_point(alloc, poly.as_slice()),
         Call::NewNextFromPointBy => next_from_point_by(alloc, poly.as_slice()),
-        Call::EvalNextBase => eval_next_base::<F, EF>(alloc, &poly, &point(alloc)?),
-        Call::EvalNextBaseBy => eval_next_base_by::<F, EF>(alloc, &poly, &point(alloc)?),
+        Call::EvalNextBase(receiver) => {
+            eval_next_base::<F, EF>(alloc, receiver, &poly, &point(alloc)?)
+        }
+        Call::EvalNextBaseBy(receiver) => {
+            eval_next_base_by::<F, EF>(alloc, receiver, &poly, &point(alloc)?)
+        }
         Call::CompressPrefixShifted => {
             compress_prefix_shifted::<F, EF>(alloc, &split(alloc)?, poly.as_view())
         }
@@ -77,25 +81,37 @@ fn next_from_point_by<R: PrimeCharacteristicRing>(
 
 fn eval_next_base<F: Field, EF: ExtensionField<F>>(
     alloc: Global,
+    receiver: Receiver,
     poly: &Poly<F>,
     point: &Point<EF>,
 ) -> Result<bool, AllocError>
     requires poly { length poly.now ≡ 8 }
     requires point { length point.now ≡ 3 }
 {
-    Ok(poly.eval_next_base(alloc, point)? == element(-9))
+    let value = match receiver {
+        Receiver::Owner => poly.eval_next_base(alloc, point),
+        Receiver::View => poly.as_view().eval_next_base(alloc, point),
+    }?;
+    Ok(value == element(-9))
 }
 
 /// Where the rows go round.
 fn eval_next_base_by<F: Field, EF: ExtensionField<F>>(
     alloc: Global,
+    receiver: Receiver,
     poly: &Poly<F>,
     point: &Point<EF>,
 ) -> Result<bool, AllocError>
     requires poly { length poly.now ≡ 8 }
     requires point { length point.now ≡ 3 }
 {
-    Ok(poly.eval_next_base_by(alloc, Successor::Wrap, point)? == element(-219))
+    let value = match receiver {
+        Receiver::Owner => poly.eval_next_base_by(alloc, Successor::Wrap, point),
+        Receiver::View => poly
+            .as_view()
+            .eval_next_base_by(alloc, Successor::Wrap, point),
+    }?;
+    Ok(value == element(-219))
 }
 
 fn compress_prefix_shifted<F: Field, EF: ExtensionField<F>>(
@@ -136,7 +152,16 @@ fn eval_next_base_of_a_poly(rt: HostRuntime) -> Result<(), Fail> {
     tried(
         &rt,
         "Poly::eval_next_base",
-        AnyCall::Successor(Call::EvalNextBase),
+        AnyCall::Successor(Call::EvalNextBase(Receiver::Owner)),
+    )
+}
+
+#[test]
+fn eval_next_base_of_a_view(rt: HostRuntime) -> Result<(), Fail> {
+    tried(
+        &rt,
+        "PolyView::eval_next_base",
+        AnyCall::Successor(Call::EvalNextBase(Receiver::View)),
     )
 }
 
@@ -154,7 +179,16 @@ fn eval_next_base_by_of_a_poly(rt: HostRuntime) -> Result<(), Fail> {
     tried(
         &rt,
         "Poly::eval_next_base_by",
-        AnyCall::Successor(Call::EvalNextBaseBy),
+        AnyCall::Successor(Call::EvalNextBaseBy(Receiver::Owner)),
+    )
+}
+
+#[test]
+fn eval_next_base_by_of_a_view(rt: HostRuntime) -> Result<(), Fail> {
+    tried(
+        &rt,
+        "PolyView::eval_next_base_by",
+        AnyCall::Successor(Call::EvalNextBaseBy(Receiver::View)),
     )
 }
 
