@@ -43,6 +43,7 @@ enum FieldRow {
 #[derive(Clone, Copy)]
 enum Row {
     Field(FieldRow),
+    EmbeddedTables,
     Values,
     Batches,
     BaseBatches,
@@ -83,6 +84,7 @@ fn holds<F: Field + Sample, EF: ExtensionField<F> + Sample>(
 ) -> Result<bool, AllocError> {
     match row {
         Row::Field(row) => holds_over::<EF>(alloc, row),
+        Row::EmbeddedTables => tables::embedded::<F, EF>(alloc),
         Row::Values => evaluations::values::<F, EF>(alloc),
         Row::Batches => batches::rows::<F, EF>(alloc),
         Row::BaseBatches => batches::rows_of_the_base::<F, EF>(alloc),
@@ -265,6 +267,12 @@ fn points_made_of_numbers(rt: HostRuntime) -> Result<(), Fail> {
 #[test]
 fn points_side_by_side(rt: HostRuntime) -> Result<(), Fail> {
     assert!(rt; everywhere_and_in_products(rt.alloc(), FieldRow::SideBySide)?);
+    Ok(())
+}
+
+#[test]
+fn embedded_tables(rt: HostRuntime) -> Result<(), Fail> {
+    assert!(rt; everywhere(rt.alloc(), Row::EmbeddedTables)?);
     Ok(())
 }
 

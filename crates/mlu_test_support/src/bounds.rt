@@ -24,17 +24,21 @@ pub fn four_times<R: PrimeCharacteristicRing>(a: R, b: R) -> R {
     R::four_products(&(a, a, a, a), &(b, b, b, b))
 }
 
-/// Whether the row (a, b, a + b, 1) times a matrix has the sums of the products one by one.
+/// Whether the row (a, b, a + b, 1) times a matrix has the sums of the products one by one, with fixed
+/// columns too, and `a` times a fixed `b` is their product.
 pub fn sums_columns<R: PrimeCharacteristicRing>(a: R, b: R) -> bool {
     let (sum, product) = (a + b, a * b);
     let l = (a, b, sum, R::ONE);
     let (first, second) = ((b, a, product, sum), (sum, a, R::ZERO, b));
     let (third, fourth) = ((R::ONE, product, b, a), (product, sum, a, R::ZERO));
     let row = R::row_times_columns(&l, &first, &second, &third, &fourth);
+    let fixed = R::row_times_fixed_columns(&l, &first, &second, &third, &fourth);
     row.0 == one_by_one(&l, &first)
         && row.1 == one_by_one(&l, &second)
         && row.2 == one_by_one(&l, &third)
         && row.3 == one_by_one(&l, &fourth)
+        && (fixed.0 == row.0 && fixed.1 == row.1 && fixed.2 == row.2 && fixed.3 == row.3)
+        && a.times_fixed(b) == product
 }
 
 fn one_by_one<R: PrimeCharacteristicRing>(l: &(R, R, R, R), r: &(R, R, R, R)) -> R {

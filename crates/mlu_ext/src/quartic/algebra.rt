@@ -7,7 +7,7 @@ ghost use Rattle.mlu_ext.specs.QuarticLaws.{constant_is_ring_map};
 ghost use Rattle.mlu_ext.specs.QuarticMaps.{quartic_splat_is_ring_map};
 
 use super::QuarticExtension;
-use super::ring::times_eleven;
+use super::ring::wrapped;
 use crate::coefficients::Coefficients;
 use mlu_lanes::Lanes;
 use mlu_ring::{
@@ -114,9 +114,7 @@ impl<F: PrimeCharacteristicRing, const W: usize> Algebra<QuarticExtension<F>>
     fn scale(self, b: QuarticExtension<F>) -> Self {
         let own = (self.c0, self.c1, self.c2, self.c3);
         let QuarticExtension { c0, c1, c2, c3 } = b;
-        let r1 = times_eleven(c1);
-        let r2 = times_eleven(c2);
-        let r3 = times_eleven(c3);
+        let (r1, r2, r3) = wrapped(b);
         QuarticExtension {
             c0: Lanes::row_times_column(&own, &(c0, r3, r2, r1)),
             c1: Lanes::row_times_column(&own, &(c1, c0, r3, r2)),

@@ -72,9 +72,7 @@ impl<R: PrimeCharacteristicRing> Mul for QuarticExtension<R> {
     fn mul(self, rhs: Self) -> Self {
         let own = (self.c0, self.c1, self.c2, self.c3);
         let QuarticExtension { c0, c1, c2, c3 } = rhs;
-        let r1 = times_eleven(c1);
-        let r2 = times_eleven(c2);
-        let r3 = times_eleven(c3);
+        let (r1, r2, r3) = wrapped(rhs);
         let product = R::row_times_columns(
             &own,
             &(c0, r3, r2, r1),
@@ -157,9 +155,7 @@ impl<R: PrimeCharacteristicRing> PrimeCharacteristicRing for QuarticExtension<R>
     fn times_fixed(self, factor: Self) -> Self {
         let own = (self.c0, self.c1, self.c2, self.c3);
         let QuarticExtension { c0, c1, c2, c3 } = factor;
-        let r1 = times_eleven(c1);
-        let r2 = times_eleven(c2);
-        let r3 = times_eleven(c3);
+        let (r1, r2, r3) = wrapped(factor);
         let product = R::row_times_fixed_columns(
             &own,
             &(c0, r3, r2, r1),
@@ -204,9 +200,19 @@ impl<R: PrimeCharacteristicRing> PrimeCharacteristicRing for QuarticExtension<R>
     ghost neg_one_is = { constant_neg_one R.ring R.Additive.laws R.zero_is R.neg_one_is };
 }
 
+// What the coefficients of X, X^2 and X^3 become where their powers wrap: eleven times as much.
+#[inline(always)]
+pub(super) fn wrapped<R: Additive>(b: QuarticExtension<R>) -> (R, R, R)
+    ensures linear { result.0 ≡ R.ring.product (eleven R.ring) b.c1 }
+    ensures quadratic { result.1 ≡ R.ring.product (eleven R.ring) b.c2 }
+    ensures cubic { result.2 ≡ R.ring.product (eleven R.ring) b.c3 }
+{
+    (times_eleven(b.c1), times_eleven(b.c2), times_eleven(b.c3))
+}
+
 // Eleven times x, as 8 x + 2 x + x.
 #[inline(always)]
-pub(super) fn times_eleven<R: Additive>(x: R) -> R
+fn times_eleven<R: Additive>(x: R) -> R
     ensures { result ≡ R.ring.product (eleven R.ring) x }
 {
     let two = x.double();

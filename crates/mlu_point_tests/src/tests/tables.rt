@@ -1,8 +1,10 @@
 //! The weights of points.
 ghost use Rattle.std.specs.Prelude.{◌≡◌, ◌<◌, ◌≤◌, length};
 
-use mlu_point::point::{BitOrder, Point, PointView};
-use mlu_ring::{Additive, Counter, Field, PrimeCharacteristicRing, Sample, Unmetered};
+use mlu_point::point::{BitOrder, Point, PointView, fill_embedded_equality_table};
+use mlu_ring::{
+    Additive, Counter, ExtensionField, Field, PrimeCharacteristicRing, Sample, Unmetered,
+};
 use mlu_test_support::draws::drawn;
 use mlu_test_support::numbers::{are, element, elements};
 use mlu_test_support::plain::table;
@@ -95,6 +97,16 @@ pub fn chunks<R: Field>(alloc: Global) -> Result<bool, AllocError> {
     );
     let uncounted = point.equality_weights_metered(alloc, BitOrder::Lsb, 1, &mut Unmetered::new())?;
     Ok(two && one && meter.made() == 0 && are(&uncounted, &[2, -4, -3, 6]))
+}
+
+/// The tables of (2, 3) with a scale, in both orders, from coordinates of the base.
+pub fn embedded<F: Field, EF: ExtensionField<F>>(alloc: Global) -> Result<bool, AllocError> {
+    let point: Vec<F> = elements(alloc, &[2, 3])?;
+    let mut out: Vec<EF> = elements(alloc, &[9, 9, 9, 9])?;
+    fill_embedded_equality_table(&mut out, &point, BitOrder::Msb, element(5));
+    let msb = are(&out, &[10, -15, -20, 30]);
+    fill_embedded_equality_table(&mut out, &point, BitOrder::Lsb, element(5));
+    Ok(msb && are(&out, &[10, -20, -15, 30]))
 }
 
 /// Two to a power.

@@ -6,9 +6,7 @@ ghost use Rattle.mlu_ring.specs.Tables.{weights};
 ghost use Rattle.mlu_point.specs.Rules.{next_by};
 
 use super::{Poly, table_length};
-use mlu_point::point::{
-    BitOrder, Successor, fill_embedded_equality_table, fill_equality_table,
-};
+use mlu_point::point::{BitOrder, Successor, fill_embedded_equality_table, fill_equality_table};
 use mlu_ring::{
     Additive, Algebra, ExtensionField, Field, Lanewise, PackedFieldExtension, PackedValue,
     PrimeCharacteristicRing,

@@ -16,8 +16,8 @@ returns g c =
     let keeps = splat_is_ring_map w ring in
     let b = c.args.b in
     let eleven_lanes = image-eleven ring lanes (splat w) laws (lane_laws w ring laws) keeps in
-    let first = ap (splat w) c.times_eleven-r1.ensures ∙ keeps.product (eleven ring) b.c1 ∙ ap (λ t. lanes.product t (splat w b.c1)) eleven_lanes in
-    let second = ap (splat w) c.times_eleven-r2.ensures ∙ keeps.product (eleven ring) b.c2 ∙ ap (λ t. lanes.product t (splat w b.c2)) eleven_lanes in
-    let third = ap (splat w) c.times_eleven-r3.ensures ∙ keeps.product (eleven ring) b.c3 ∙ ap (λ t. lanes.product t (splat w b.c3)) eleven_lanes in
+    let first = ap (splat w) c.wrapped.ensures.linear ∙ keeps.product (eleven ring) b.c1 ∙ ap (λ t. lanes.product t (splat w b.c1)) eleven_lanes in
+    let second = ap (splat w) c.wrapped.ensures.quadratic ∙ keeps.product (eleven ring) b.c2 ∙ ap (λ t. lanes.product t (splat w b.c2)) eleven_lanes in
+    let third = ap (splat w) c.wrapped.ensures.cubic ∙ keeps.product (eleven ring) b.c3 ∙ ap (λ t. lanes.product t (splat w b.c3)) eleven_lanes in
     product-rows lanes (lane_laws w ring laws) c.args.self (quartic_map (splat w) b) _ _ _ _ _ _ _ first second third
     c.row_times_column.ensures c.row_times_column-2.ensures c.row_times_column-3.ensures c.row_times_column-4.ensures

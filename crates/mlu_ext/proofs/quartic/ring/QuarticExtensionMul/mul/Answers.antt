@@ -4,5 +4,5 @@ use Rattle.mlu_ext.proofs.quartic.ring.QuarticExtensionMul.mul.Goals as goal
 
 pub returns : goal.returns
 returns g c =
-    product-rows g.R.Additive.ring g.met.R.Additive.laws c.args.self c.args.rhs _ _ _ _ _ _ _ c.times_eleven-r1.ensures c.times_eleven-r2.ensures c.times_eleven-r3.ensures
+    product-rows g.R.Additive.ring g.met.R.Additive.laws c.args.self c.args.rhs _ _ _ _ _ _ _ c.wrapped.ensures.linear c.wrapped.ensures.quadratic c.wrapped.ensures.cubic
     (c.row_times_columns-product.ensures.first) (c.row_times_columns-product.ensures.second) (c.row_times_columns-product.ensures.third) (c.row_times_columns-product.ensures.fourth)
