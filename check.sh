@@ -76,6 +76,18 @@ faulty() {
   fi
 }
 
+# Runs the replay of a line with allocation $1 refused, one of its buffers, and tests that it ends with
+# the status of refused memory and nothing on standard output.
+refused_replay() {
+  local ended=0
+  (cd crates/mlu_replay && head -n 1 stdin | rt try --fail-alloc "$1") >"$room/out" 2>"$room/err" || ended=$?
+  if [ "$ended" -ne 3 ] || [ -s "$room/out" ]; then
+    cat "$room/out" "$room/err"
+    echo "mlu_replay: status $ended with allocation $1 refused, in place of 3"
+    exit 1
+  fi
+}
+
 # Tries all edits of the crates $@, on a copy that has those of edits/ beside those of the gate.
 edits() {
   local crate tried refused
@@ -115,6 +127,8 @@ refusals mlu
 refusals mlu_replay_refusals
 faulty 2 'mlu: length' -- eval 1,2,3 2
 faulty 3 'mlu: memory' --fail-alloc 1 -- eval 1,2,3,4 2,3
+refused_replay 1
+refused_replay 2
 status=0
 rt ci | tee "$room/said" || status=$?
 echo "all of it took $((SECONDS / 60)) minutes on $places processors"
