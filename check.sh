@@ -80,9 +80,9 @@ faulty() {
 # the status of refused memory and nothing on standard output.
 refused_replay() {
   local ended=0
-  (cd crates/mlu_replay && head -n 1 stdin | rt try --fail-alloc "$1") >"$room/out" 2>"$room/err" || ended=$?
-  if [ "$ended" -ne 3 ] || [ -s "$room/out" ]; then
-    cat "$room/out" "$room/err"
+  (cd crates/mlu_replay && head -n 1 stdin | rt try --fail-alloc "$1") >"$room/out.$1" 2>"$room/err.$1" || ended=$?
+  if [ "$ended" -ne 3 ] || [ -s "$room/out.$1" ]; then
+    cat "$room/out.$1" "$room/err.$1"
     echo "mlu_replay: status $ended with allocation $1 refused, in place of 3"
     exit 1
   fi
@@ -127,8 +127,9 @@ refusals mlu
 refusals mlu_replay_refusals
 faulty 2 'mlu: length' -- eval 1,2,3 2
 faulty 3 'mlu: memory' --fail-alloc 1 -- eval 1,2,3,4 2,3
-refused_replay 1
+refused_replay 1 &
 refused_replay 2
+wait "$!"
 status=0
 rt ci | tee "$room/said" || status=$?
 echo "all of it took $((SECONDS / 60)) minutes on $places processors"
