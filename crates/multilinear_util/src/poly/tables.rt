@@ -107,7 +107,19 @@ fn packed_table<F: Field, EF: ExtensionField<F>>(
     let (rest, last) = point.split_at(point.len() - <F::Packing as PackedValue>::LOG_WIDTH);
     let lanes = Poly::new_from_point(alloc, last, scale)?;
     let seed = EF::ExtensionPacking::from_ext_slice(lanes.as_slice());
-    let mut evals = EF::ExtensionPacking::zero_vec(alloc, table_length(rest.len()))?;
-    fill_embedded_equality_table(evals.as_mut_slice(), rest, BitOrder::Msb, seed);
+    embedded_table(alloc, rest, seed)
+}
+
+/// [`Poly::new_from_point`] at the images of the coordinates.
+fn embedded_table<B: Additive, R: Algebra<B>>(
+    alloc: Global,
+    point: &[B],
+    scale: R,
+) -> Result<Poly<R>, AllocError>
+    requires { 2 ^ length point.now < 2 ^ 64 }
+    ensures { IfOk result (λ poly. poly ≡ map (R.ring.product scale) (weights R.ring (map R.embed point.now))) }
+{
+    let mut evals = R::zero_vec(alloc, table_length(point.len()))?;
+    fill_embedded_equality_table(evals.as_mut_slice(), point, BitOrder::Msb, scale);
     Ok(Poly::new(evals))
 }

@@ -25,13 +25,10 @@ from_ext_slice-seed-requires g c =
     ∙ ap (λ n. 2 ^ n) size
     ∙ sym width
 
-pub table_length-requires : goal.table_length-requires
-table_length-requires g c =
+pub embedded_table-requires : goal.embedded_table-requires
+embedded_table-requires g c =
     let shorter = c.split_at.ensures.front_len in
     grind (arith, pow_mono {i = length c.split_at.result.0.now} {j = length c.args.point.now}, shorter, c.requires.fits)
-
-pub fill_embedded_equality_table-requires : goal.fill_embedded_equality_table-requires
-fill_embedded_equality_table-requires g c = ap length c.in_ok-evals.ensures ∙ length-replicate c.table_length.result g.EF.ExtensionPacking.Additive.ring.zero ∙ c.table_length.ensures
 
 pub returns : goal.returns
 returns g c =
@@ -51,6 +48,6 @@ returns g c =
     g.met.EF.ExtensionPacking.Additive.laws g.met.EF.ExtensionPacking.Algebra-1.keeps seed c.args.scale rest last poly
     (c.from_ext_slice-seed.ensures ∙ c.as_slice.ensures.value ∙ c.in_ok-lanes.ensures)
     (packed.lanes_are.length-parts seed)
-    (made ∙ ap (λ ps. map (g.EF.ExtensionPacking.Additive.ring.product seed) (weights g.EF.ExtensionPacking.Additive.ring ps)) (c.as_slice-2.ensures.value ∙ c.in_ok-coordinates.ensures))
+    made
     ∙ ap (λ p. map (ring.product c.args.scale) (weights ring p)) whole)
-    c.new_from_point-2.result c.new_from_point-2.ensures
+    c.embedded_table.result c.embedded_table.ensures
