@@ -73,13 +73,26 @@ fn words(alloc: Global, row: Row) -> Result<bool, AllocError> {
     holds::<WrappingU64<4>, WrappingU64<4>>(alloc, row)
 }
 
+/// [`holds`] over an extension of residues. The bound names its field: a call with two types as parameters
+/// is more than the prover takes.
+fn over_residues<const W: usize, EF: ExtensionField<BabyBear<W>> + Sample>(
+    alloc: Global,
+    row: Row,
+) -> Result<bool, AllocError>
+where
+    Lanes<BabyBear<W>, W>: LaneWidth<W>,
+    requires { W < 32 }
+{
+    holds::<BabyBear<W>, EF>(alloc, row)
+}
+
 /// [`holds`] over the quartic extension.
 fn quartics<const W: usize>(alloc: Global, row: Row) -> Result<bool, AllocError>
 where
     Lanes<BabyBear<W>, W>: LaneWidth<W>,
     requires { W < 32 }
 {
-    holds::<BabyBear<W>, QuarticExtension<BabyBear<W>>>(alloc, row)
+    over_residues::<W, QuarticExtension<BabyBear<W>>>(alloc, row)
 }
 
 #[test]

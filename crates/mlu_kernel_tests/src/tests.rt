@@ -66,7 +66,7 @@ where
     Lanes<BabyBear<W>, W>: LaneWidth<W>,
     requires { W < 32 }
 {
-    holds::<BabyBear<W>, QuarticExtension<BabyBear<W>>>(alloc, row)
+    over_residues::<W, QuarticExtension<BabyBear<W>>>(alloc, row)
 }
 
 /// [`holds`] over an extension of residues. The bound names its field, since at products a call with

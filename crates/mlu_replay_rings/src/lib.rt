@@ -9,9 +9,11 @@ ghost use Rattle.std.specs.Prelude.{◌<◌};
 
 use mlu_ext::{ProductAlgebra, QuarticExtension};
 use mlu_lanes::{BabyBear, LaneWidth, Lanes, WrappingU64};
+use mlu_replay_calls::element::Element;
 use mlu_replay_calls::fault::{Fault, Reason};
 use mlu_replay_calls::ops::{mixed, over_base, over_itself};
 use mlu_replay_calls::words::Words;
+use mlu_ring::ExtensionField;
 use std::alloc::Global;
 
 /// The answer over the rings that the tag names, at a lane width.
@@ -87,13 +89,26 @@ where
     over_itself::<WrappingU64<W>>(op, words)
 }
 
+/// Over the residues modulo a prime, with an extension of them. The bound names its field: a call with two
+/// types as parameters is more than the prover takes.
+fn over_residues<const W: usize, EF: ExtensionField<BabyBear<W>> + Element>(
+    op: &str,
+    words: &mut Words<'_>,
+) -> Result<String, Fault>
+where
+    Lanes<BabyBear<W>, W>: LaneWidth<W>,
+    requires { W < 32 }
+{
+    mixed::<BabyBear<W>, EF>(op, words)
+}
+
 /// Over the residues modulo a prime, with quartics over them.
 fn quartics_over_residues<const W: usize>(op: &str, words: &mut Words<'_>) -> Result<String, Fault>
 where
     Lanes<BabyBear<W>, W>: LaneWidth<W>,
     requires { W < 32 }
 {
-    mixed::<BabyBear<W>, QuarticExtension<BabyBear<W>>>(op, words)
+    over_residues::<W, QuarticExtension<BabyBear<W>>>(op, words)
 }
 
 /// Over the residues modulo a prime, with products of no copies: the ring of one element.
@@ -102,7 +117,7 @@ where
     Lanes<BabyBear<W>, W>: LaneWidth<W>,
     requires { W < 32 }
 {
-    mixed::<BabyBear<W>, ProductAlgebra<BabyBear<W>, 0>>(op, words)
+    over_residues::<W, ProductAlgebra<BabyBear<W>, 0>>(op, words)
 }
 
 /// Over the residues modulo a prime, with products of one copy.
@@ -111,7 +126,7 @@ where
     Lanes<BabyBear<W>, W>: LaneWidth<W>,
     requires { W < 32 }
 {
-    mixed::<BabyBear<W>, ProductAlgebra<BabyBear<W>, 1>>(op, words)
+    over_residues::<W, ProductAlgebra<BabyBear<W>, 1>>(op, words)
 }
 
 /// Over the residues modulo a prime, with products of nine copies.
@@ -120,5 +135,5 @@ where
     Lanes<BabyBear<W>, W>: LaneWidth<W>,
     requires { W < 32 }
 {
-    mixed::<BabyBear<W>, ProductAlgebra<BabyBear<W>, 9>>(op, words)
+    over_residues::<W, ProductAlgebra<BabyBear<W>, 9>>(op, words)
 }

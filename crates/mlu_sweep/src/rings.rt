@@ -3,6 +3,7 @@ ghost use Rattle.std.specs.Prelude.{◌<◌};
 
 use mlu_ext::{ProductAlgebra, QuarticExtension};
 use mlu_lanes::{BabyBear, LaneWidth, Lanes, WrappingU64};
+use mlu_ring::{ExtensionField, Sample, SelfAlgebra};
 use mlu_sweep_calls::{Difference, sweep};
 use std::alloc::{AllocError, Global};
 
@@ -27,6 +28,19 @@ where
     sweep::<WrappingU64<W>, WrappingU64<W>>(alloc, most)
 }
 
+/// An extension of the integers modulo 2013265921. The bound names its field: a call with two types as
+/// parameters is more than the prover takes.
+fn over_residues<const W: usize, EF: ExtensionField<BabyBear<W>> + SelfAlgebra + Sample>(
+    alloc: Global,
+    most: usize,
+) -> Result<Option<Difference>, AllocError>
+where
+    Lanes<BabyBear<W>, W>: LaneWidth<W>,
+    requires { W < 32 }
+{
+    sweep::<BabyBear<W>, EF>(alloc, most)
+}
+
 /// The extension of degree four.
 pub fn quartics<const W: usize>(
     alloc: Global,
@@ -36,7 +50,7 @@ where
     Lanes<BabyBear<W>, W>: LaneWidth<W>,
     requires { W < 32 }
 {
-    sweep::<BabyBear<W>, QuarticExtension<BabyBear<W>>>(alloc, most)
+    over_residues::<W, QuarticExtension<BabyBear<W>>>(alloc, most)
 }
 
 /// No copies of the integers modulo 2013265921, side by side.
@@ -48,7 +62,7 @@ where
     Lanes<BabyBear<W>, W>: LaneWidth<W>,
     requires { W < 32 }
 {
-    sweep::<BabyBear<W>, ProductAlgebra<BabyBear<W>, 0>>(alloc, most)
+    over_residues::<W, ProductAlgebra<BabyBear<W>, 0>>(alloc, most)
 }
 
 /// One copy of the integers modulo 2013265921, side by side.
@@ -60,7 +74,7 @@ where
     Lanes<BabyBear<W>, W>: LaneWidth<W>,
     requires { W < 32 }
 {
-    sweep::<BabyBear<W>, ProductAlgebra<BabyBear<W>, 1>>(alloc, most)
+    over_residues::<W, ProductAlgebra<BabyBear<W>, 1>>(alloc, most)
 }
 
 /// Nine copies of the integers modulo 2013265921, side by side.
@@ -72,5 +86,5 @@ where
     Lanes<BabyBear<W>, W>: LaneWidth<W>,
     requires { W < 32 }
 {
-    sweep::<BabyBear<W>, ProductAlgebra<BabyBear<W>, 9>>(alloc, most)
+    over_residues::<W, ProductAlgebra<BabyBear<W>, 9>>(alloc, most)
 }

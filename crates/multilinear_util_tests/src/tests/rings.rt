@@ -66,11 +66,24 @@ where
     holds::<BabyBear<W>, BabyBear<W>>(alloc, row)
 }
 
+/// [`holds`] over an extension of residues. The bound names its field: a call with two types as parameters
+/// is more than the prover takes.
+fn over_residues<const W: usize, EF: ExtensionField<BabyBear<W>> + Sample>(
+    alloc: Global,
+    row: Row,
+) -> Result<bool, AllocError>
+where
+    Lanes<BabyBear<W>, W>: LaneWidth<W>,
+    requires { W ≤ 8 }
+{
+    holds::<BabyBear<W>, EF>(alloc, row)
+}
+
 /// [`holds`] over the quartic extension.
 pub fn quartics<const W: usize>(alloc: Global, row: Row) -> Result<bool, AllocError>
 where
     Lanes<BabyBear<W>, W>: LaneWidth<W>,
     requires { W ≤ 8 }
 {
-    holds::<BabyBear<W>, QuarticExtension<BabyBear<W>>>(alloc, row)
+    over_residues::<W, QuarticExtension<BabyBear<W>>>(alloc, row)
 }
