@@ -59,11 +59,6 @@ impl<R: PrimeCharacteristicRing> Algebra<QuarticExtension<R>> for QuarticExtensi
         b
     }
 
-    #[inline(always)]
-    fn scale(self, b: Self) -> Self {
-        self.times_fixed(b)
-    }
-
     ghost keeps = { identity_is_ring_map Self.ring };
 }
 
