@@ -8,7 +8,7 @@ ghost use Rattle.mlu_eq.specs.Combine.{combined, interpolated};
 use mlu_ring::{Additive, Algebra, PrimeCharacteristicRing};
 
 /// `low + r * (high - low)`.
-#[inline]
+#[inline(always)]
 pub fn interpolate<R: PrimeCharacteristicRing>(low: R, high: R, r: R) -> R
     ensures { result ≡ interpolated R.ring r low high }
 {
@@ -16,15 +16,23 @@ pub fn interpolate<R: PrimeCharacteristicRing>(low: R, high: R, r: R) -> R
 }
 
 /// The same of the images of two base elements.
-#[inline]
+#[inline(always)]
 pub fn interpolate_base<F: Additive, EF: Algebra<F>>(low: F, high: F, r: EF) -> EF
     ensures { result ≡ interpolated EF.ring r (EF.embed low) (EF.embed high) }
 {
     r.scale(high - low).plus(low)
 }
 
+/// [`interpolate_base`] in a loop by one `r`, which the compiler prepares once.
+#[inline(always)]
+pub fn interpolate_base_at_fixed<F: Additive, EF: Algebra<F>>(low: F, high: F, r: EF) -> EF
+    ensures { result ≡ interpolated EF.ring r (EF.embed low) (EF.embed high) }
+{
+    EF::from_base(high - low).times_fixed(r).plus(low)
+}
+
 /// The same at the image of a base element.
-#[inline]
+#[inline(always)]
 pub fn interpolate_at_base<R: Additive, F: Algebra<R>>(low: F, high: F, r: R) -> F
     ensures { result ≡ interpolated F.ring (F.embed r) low high }
 {
@@ -32,7 +40,7 @@ pub fn interpolate_at_base<R: Additive, F: Algebra<R>>(low: F, high: F, r: R) ->
 }
 
 /// The sum of `low` and the product of `high` with the image of `r`.
-#[inline]
+#[inline(always)]
 pub fn add_scaled<R: Additive, F: Algebra<R>>(low: F, high: F, r: R) -> F
     ensures { result ≡ combined F.ring F.ring.one (F.embed r) low high }
 {

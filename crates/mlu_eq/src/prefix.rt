@@ -5,7 +5,7 @@ ghost use Rattle.std.specs.Prelude.{◌≡◌, ◌+◌, ◌<◌, ◌≤◌, ◌/
 ghost use Rattle.mlu_ring.specs.Lanes.{logical};
 ghost use Rattle.mlu_ring.specs.Tables.{front, line};
 
-use crate::line::{add_scaled, interpolate_at_base, interpolate_base};
+use crate::line::{add_scaled, interpolate_at_base, interpolate_base, interpolate_base_at_fixed};
 use mlu_ring::{
     Additive, Algebra, ExtensionField, Field, PackedFieldExtension, PackedValue,
     PrimeCharacteristicRing,
@@ -34,13 +34,13 @@ pub fn fold_prefix<F: Additive, EF: Algebra<F>>(
 }
 
 /// Entry `index` of the table folded at `r`. Asks that `index` is below half the table.
-#[inline]
+#[inline(always)]
 pub fn fold_prefix_at<F: Additive, EF: Algebra<F>>(entries: &[F], r: EF, index: usize) -> EF
     requires { index < length entries.now / 2 }
     ensures { (d : EF) → result ≡ slice_index_or (front EF.ring (line EF.ring r) (map EF.embed entries.now)) index d }
 {
     let half = entries.len() / 2;
-    interpolate_base(entries[index], entries[half + index], r)
+    interpolate_base_at_fixed(entries[index], entries[half + index], r)
 }
 
 /// The table folded at `r`, in packed form: its entries are the lanes, joined in order.
@@ -61,15 +61,15 @@ pub fn fold_prefix_to_packed<F: Field, EF: ExtensionField<F>>(
 {
     let width = <F::Packing as PackedValue>::WIDTH;
     let groups = entries.len() / 2 / width;
-    let mut folded = EF::ExtensionPacking::zero_vec(alloc, groups)?;
+    let mut folded = Vec::with_capacity(alloc, groups)?;
     for i in 0..groups {
-        folded[i] = fold_group_at::<F, EF>(entries, r, i * width);
+        folded.push(fold_group_at::<F, EF>(entries, r, i * width))?;
     }
     Ok(folded)
 }
 
 /// The packing of the entries from `start` on of the table folded at `r`.
-#[inline]
+#[inline(always)]
 fn fold_group_at<F: Field, EF: ExtensionField<F>>(
     entries: &[F],
     r: EF,

@@ -4,7 +4,7 @@
 ghost use Rattle.std.specs.Prelude.{◌≡◌, ◌/◌, ◌<◌, IfOk, IsOk, length, map, take};
 ghost use Rattle.mlu_ring.specs.Tables.{back, line};
 
-use crate::line::{interpolate_at_base, interpolate_base};
+use crate::line::{interpolate_at_base, interpolate_base_at_fixed};
 use mlu_ring::{Additive, Algebra, PrimeCharacteristicRing};
 use std::alloc::{AllocError, Global};
 
@@ -23,7 +23,7 @@ pub fn fold_suffix<F: Additive, EF: Algebra<F>>(
     let half = entries.len() / 2;
     let mut folded = EF::zero_vec(alloc, half)?;
     for i in 0..half {
-        folded[i] = interpolate_base(entries[2 * i], entries[2 * i + 1], r);
+        folded[i] = interpolate_base_at_fixed(entries[2 * i], entries[2 * i + 1], r);
     }
     Ok(folded)
 }

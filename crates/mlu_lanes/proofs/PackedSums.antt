@@ -1,17 +1,17 @@
--- Sums of four products of packed residues, from lanes that are reduced once.
+-- Products of packed residues and sums of four, from lanes that are reduced once.
 use Rattle.std.proofs.Common.{◌≡◌, ℕ, ◌+◌, ◌*◌, ◌%◌, ◌<◌, List, [], ◌∷◌, length, replicate, get_or, ap, sym, ◌∙◌, arith}
 use Rattle.std.proofs.lemmas.List.{ext_get_or, get_or-replicate}
 use Rattle.std.proofs.lemmas.Simd.{length-replicate}
 use Rattle.mlu_ring.proofs.Resized.{resized-whole}
 use Rattle.mlu_ring.specs.Lanes.{splat_of}
 use Rattle.mlu_ring.specs.Tables.{pair}
-use Rattle.mlu_lanes.specs.BabyBear.{baby_bear_ring, baby_bear_laws, canonical, reduced}
+use Rattle.mlu_lanes.specs.BabyBear.{baby_bear_ring, baby_bear_laws, canonical, reduced, same_canonical}
 use Rattle.mlu_lanes.specs.LaneRing.{lane_ring, packed_of, same_values}
 use Rattle.mlu_lanes.specs.Packed.{residue}
 use Rattle.mlu_lanes.specs.declared.baby_bear.BabyBear.{BabyBear}
 use Rattle.mlu_lanes.specs.declared.baby_bear.TheConstants.{MODULUS}
 use Rattle.mlu_lanes.specs.declared.lanes.Lanes.{Lanes}
-use Rattle.mlu_lanes.proofs.OneLane.{lane_of_four_products}
+use Rattle.mlu_lanes.proofs.OneLane.{lane_is_ring_map, lane_of_four_products}
 use Rattle.mlu_lanes.proofs.ResidueSums.{reduced_once}
 
 -- a list of four, from what is read of it
@@ -26,6 +26,14 @@ module _ {W : ℕ} where
   same_lanes p q same =
       let full = p.full in
       same_values W p q (ext_get_or (reduced 0) p.values q.values (full ∙ sym q.full) (λ j below. same j (omega (arith, full, below))))
+
+  pub product_of_residues : (a b product : Lanes (BabyBear W) W)
+      → ((j : ℕ) → j < W → residue product j ≡ residue a j * residue b j % MODULUS)
+      → product ≡ (lane_ring W (baby_bear_ring W)).product a b
+  product_of_residues a b product each =
+      same_lanes product _ (λ j below.
+      let by_lane = lane_is_ring_map W (baby_bear_ring W) j below in
+      same_canonical _ _ (each j below) ∙ sym (by_lane.product a b))
 
   pub sum_of_residues : (a b c d p q r s sum : Lanes (BabyBear W) W)
       → ((j : ℕ) → j < W → residue sum j

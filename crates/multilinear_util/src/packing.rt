@@ -17,10 +17,10 @@ pub(crate) fn packed<F: Field, EF: ExtensionField<F>>(
 {
     let width = <F::Packing as PackedValue>::WIDTH;
     let groups = evals.len() / width;
-    let mut elements = EF::ExtensionPacking::zero_vec(alloc, groups)?;
+    let mut elements = Vec::with_capacity(alloc, groups)?;
     for i in 0..groups {
         let start = i * width;
-        elements[i] = EF::ExtensionPacking::from_ext_slice(&evals[start..start + width]);
+        elements.push(EF::ExtensionPacking::from_ext_slice(&evals[start..start + width]))?;
     }
     Ok(elements)
 }

@@ -59,6 +59,12 @@ impl<R: PrimeCharacteristicRing> Algebra<QuarticExtension<R>> for QuarticExtensi
         b
     }
 
+    // As folds by one `b` scale each entry.
+    #[inline(always)]
+    fn scale(self, b: Self) -> Self {
+        self.times_fixed(b)
+    }
+
     ghost keeps = { identity_is_ring_map Self.ring };
 }
 

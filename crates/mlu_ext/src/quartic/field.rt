@@ -8,7 +8,7 @@ ghost use Rattle.mlu_ext.specs.QuarticMaps.{quartic_are_lists, product-constant_
 use super::QuarticExtension;
 use crate::coefficients::Coefficients;
 use mlu_lanes::{BabyBear, LaneWidth, Lanes};
-use mlu_ring::{ExtensionField, Field, Lanewise};
+use mlu_ring::{ExtensionField, Field, Lanewise, PackedValue, PrimeCharacteristicRing};
 
 impl<const W: usize> Lanewise for QuarticExtension<BabyBear<W>> {
     type Packing = Lanes<Self, 1>;
@@ -24,9 +24,10 @@ impl<const W: usize> Field for QuarticExtension<BabyBear<W>> {
         16
     }
 
-    #[inline]
+    // As tables by one coordinate split each entry.
+    #[inline(always)]
     fn lanes_mul(a: Lanes<Self, 1>, b: Lanes<Self, 1>) -> Lanes<Self, 1> {
-        a * b
+        Lanes::from_array([a.lane(0).times_fixed(b.lane(0))])
     }
 }
 

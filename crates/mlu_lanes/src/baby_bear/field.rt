@@ -4,7 +4,7 @@ ghost use Rattle.mlu_lanes.specs.LaneRing.{lane_by_lane};
 ghost use Rattle.mlu_lanes.specs.BabyBear.{baby_bear_ring};
 
 use super::BabyBear;
-use super::packed::{products, scaled, sum_reduced};
+use super::packed::{product_reduced, products, scaled, sum_reduced};
 use crate::lanes::{LaneWidth, Lanes};
 use crate::words::wide_sums;
 use mlu_ring::{Field, Lanewise};
@@ -29,9 +29,9 @@ where
         4
     }
 
-    #[inline]
+    #[inline(always)]
     fn lanes_mul(a: Lanes<Self, W>, b: Lanes<Self, W>) -> Lanes<Self, W> {
-        a * b
+        product_reduced(products(&a, &b))
     }
 
     #[inline(always)]

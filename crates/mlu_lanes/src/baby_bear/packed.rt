@@ -3,7 +3,7 @@ ghost use Rattle.std.specs.Prelude.{◌≡◌, ℕ, ◌*◌, ◌%◌, ◌^◌, �
 ghost use Rattle.mlu_lanes.specs.BabyBear.{canonical};
 ghost use Rattle.mlu_lanes.specs.Packed.{residue};
 
-use super::reduce_each::reduce_each_word;
+use super::reduce_each::{reduce_each_product, reduce_each_word};
 use super::{BabyBear, MODULUS};
 use crate::lanes::Lanes;
 use crate::words::{all, wide_products, widened};
@@ -28,6 +28,15 @@ pub fn scaled<const W: usize>(p: &Lanes<BabyBear<W>, W>, c: BabyBear<W>) -> Simd
     ensures small { (j : ℕ) → j < W → slice_index result j < 2 ^ 62 }
 {
     residue_products(words_of(p), all(c.value))
+}
+
+/// The packed value of words below 2^62, as products are.
+#[inline(always)]
+pub fn product_reduced<const W: usize>(words: Simd<u64, W>) -> Lanes<BabyBear<W>, W>
+    requires { (j : ℕ) → j < W → slice_index words j < 2 ^ 62 }
+    ensures { (j : ℕ) → j < W → residue result j ≡ slice_index words.entry j % MODULUS }
+{
+    lanes_of(reduce_each_product(words))
 }
 
 /// The packed value of any words, as sums of four products are.

@@ -51,6 +51,21 @@ fn folded_quotients<const W: usize>(folded: Simd<u64, W>) -> Simd<u64, W>
     shifted_right(scaled, 33)
 }
 
+/// The residues of lanes below 2^62, as products of two residues are: two vector products a pair of
+/// lanes. As in `reduce_product`, the quotients are those by the modulus, or one less, and taking the
+/// lower halves says that 32 bits are enough.
+#[inline(always)]
+pub fn reduce_each_product<const W: usize>(words: Simd<u64, W>) -> Simd<u32, W>
+    requires { (j : ℕ) → j < W → slice_index words j < 2 ^ 62 }
+    ensures { (j : ℕ) → j < W → slice_index result j ≡ slice_index words.entry j % MODULUS }
+{
+    let high = lower_halves(shifted_right(words, 30));
+    let quotients = shifted_right(wide_products(high, wide_all(RECIPROCAL)), 32);
+    let multiples = wide_products(quotients, wide_all(u64::from(MODULUS)));
+    let rest = wide_differences(words, multiples);
+    reduce_each_once(narrowed(rest))
+}
+
 /// The residues of lanes below twice the modulus.
 #[inline(always)]
 pub fn reduce_each_once<const W: usize>(words: Simd<u32, W>) -> Simd<u32, W>

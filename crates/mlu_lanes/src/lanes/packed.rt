@@ -1,5 +1,6 @@
 //! Lanes as a packed value, at the widths that are powers of two.
-ghost use Rattle.std.specs.Prelude.{◌≡◌, ◌^◌, ℕ, refl};
+ghost use Rattle.std.specs.Prelude.{◌≡◌, ◌<◌, ◌^◌, ℕ, refl};
+ghost use Rattle.std.proofs.Common.{lit<};
 ghost use Rattle.mlu_lanes.specs.LaneRing.{values_of, packed_of, lanes_are_lists};
 
 use super::Lanes;
@@ -13,6 +14,9 @@ pub trait LaneWidth<const W: usize> {
     ghost LOG_WIDTH: { ℕ };
 
     ghost width_is: { W ≡ 2 ^ LOG_WIDTH };
+
+    // So that a vector of as many words fits memory.
+    ghost width_is_small: { W < 32 };
 }
 
 impl<F> LaneWidth<1> for Lanes<F, 1> {
@@ -21,6 +25,8 @@ impl<F> LaneWidth<1> for Lanes<F, 1> {
     ghost LOG_WIDTH = { 0 };
 
     ghost width_is = { refl };
+
+    ghost width_is_small = { lit< tt };
 }
 
 impl<F> LaneWidth<2> for Lanes<F, 2> {
@@ -29,6 +35,8 @@ impl<F> LaneWidth<2> for Lanes<F, 2> {
     ghost LOG_WIDTH = { 1 };
 
     ghost width_is = { refl };
+
+    ghost width_is_small = { lit< tt };
 }
 
 impl<F> LaneWidth<4> for Lanes<F, 4> {
@@ -37,6 +45,8 @@ impl<F> LaneWidth<4> for Lanes<F, 4> {
     ghost LOG_WIDTH = { 2 };
 
     ghost width_is = { refl };
+
+    ghost width_is_small = { lit< tt };
 }
 
 impl<F> LaneWidth<8> for Lanes<F, 8> {
@@ -45,6 +55,8 @@ impl<F> LaneWidth<8> for Lanes<F, 8> {
     ghost LOG_WIDTH = { 3 };
 
     ghost width_is = { refl };
+
+    ghost width_is_small = { lit< tt };
 }
 
 impl<F> LaneWidth<16> for Lanes<F, 16> {
@@ -53,6 +65,8 @@ impl<F> LaneWidth<16> for Lanes<F, 16> {
     ghost LOG_WIDTH = { 4 };
 
     ghost width_is = { refl };
+
+    ghost width_is_small = { lit< tt };
 }
 
 impl<F: Additive, const W: usize> PackedValue for Lanes<F, W>

@@ -5,4 +5,4 @@ pub returns : goal.returns
 returns g c =
     let ring = g.EF.Additive.ring in
     λ d. front_of_image ring g.met.EF.Additive.laws g.EF.Algebra.embed (ring.minus ring.one c.args.r) c.args.r c.args.entries.now c.args.index
-    c.index-entries-index.result c.index-entries-half.result c.interpolate_base.result d c.requires c.index-entries-index.is c.index-entries-half.is c.interpolate_base.ensures
+    c.index-entries-index.result c.index-entries-half.result c.interpolate_base_at_fixed.result d c.requires c.index-entries-index.is c.index-entries-half.is c.interpolate_base_at_fixed.ensures

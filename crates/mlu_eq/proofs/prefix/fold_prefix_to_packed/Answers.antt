@@ -1,24 +1,36 @@
-use Rattle.std.proofs.Common.{◌≡◌, ◌*◌, ◌/◌, ◌∙◌, length, map, refl, sym, ap, arith}
+use Rattle.std.proofs.Common.{◌≡◌, ◌*◌, ◌/◌, ◌∙◌, length, map, take, drop, refl, sym, ap, arith}
+use Rattle.std.proofs.Math.Seq.{take-length}
 use Rattle.std.proofs.lemmas.List.{length-map}
 use Rattle.std.proofs.lemmas.Nat.{div-add-mod'}
+use Rattle.mlu_ring.specs.Lanes.{logical}
 use Rattle.mlu_ring.specs.Tables.{front, line}
 use Rattle.mlu_ring.proofs.Univariate.{length-front}
-use Rattle.mlu_eq.proofs.Groups.{flat_map-runs}
+use Rattle.mlu_eq.proofs.Groups.{lanes_more}
 use Rattle.mlu_eq.proofs.prefix.fold_prefix_to_packed.Goals as goal
+
+pub loop-i-preserved : goal.loop-i-preserved
+loop-i-preserved g c =
+    let ring = g.EF.Additive.ring in
+    let width = g.F.Packing.PackedValue.WIDTH in
+    let lanes = g.EF.ExtensionPacking.PackedFieldExtension.ext_lanes in
+    let folded = front ring (line ring c.args.r) (map g.EF.Algebra.embed c.args.entries.now) in
+    let i = c.loop-i.i in
+    ap (logical lanes) c.in_ok-push.ensures.items
+    ∙ lanes_more width lanes c.loop-i.folded.items c.fold_group_at.result folded i c.loop-i.invariant
+    (c.fold_group_at.ensures ∙ ap (λ n. take width (drop (i * n) folded)) c.WIDTH-width.ensures)
 
 pub returns : goal.returns
 returns g c =
     let ring = g.EF.Additive.ring in
     let width = g.F.Packing.PackedValue.WIDTH in
-    let entries = c.args.entries.now in
-    let half = length entries / 2 in
-    let folded = front ring (line ring c.args.r) (map g.EF.Algebra.embed entries) in
-    let groups : length c.loop-i.folded.items ≡ half / width = c.loop-i.invariant.size ∙ ap (λ n. half / n) c.WIDTH-width.ensures in
+    let entries = map g.EF.Algebra.embed c.args.entries.now in
+    let half = length c.args.entries.now / 2 in
+    let folded = front ring (line ring c.args.r) entries in
+    let groups : c.loop-i.i ≡ half / c.WIDTH-width.result = omega arith in
+    let same : half / c.WIDTH-width.result ≡ half / width = ap (λ n. half / n) c.WIDTH-width.ensures in
     let whole : half ≡ half / width * width = omega (arith, div-add-mod' half width, c.requires) in
-    let long : length folded ≡ half = length-front ring (line ring c.args.r) (map g.EF.Algebra.embed entries) half (ap (λ n. n / 2) (length-map entries g.EF.Algebra.embed)) in
+    let long : length folded ≡ half = length-front ring (line ring c.args.r) entries half (ap (λ n. n / 2) (length-map c.args.entries.now g.EF.Algebra.embed)) in
     record {
-      folded = flat_map-runs width g.EF.ExtensionPacking.PackedFieldExtension.ext_lanes c.loop-i.folded.items folded
-          (long ∙ whole ∙ ap (λ n. n * width) (sym groups))
-          (λ k d h. c.loop-i.invariant.done k d (omega arith));
+      folded = c.loop-i.invariant ∙ ap (λ n. take (n * width) folded) (groups ∙ same) ∙ ap (λ n. take n folded) (sym (long ∙ whole)) ∙ take-length folded;
       few = λ h. refl;
     }

@@ -1,14 +1,26 @@
-use Rattle.std.proofs.Common.{◌≡◌, ◌*◌, ◌/◌, ◌∙◌, length, sym, ap, arith}
+use Rattle.std.proofs.Common.{◌≡◌, ◌+◌, ◌-◌, ◌*◌, ◌/◌, ◌∙◌, length, take, drop, sym, ap, arith}
+use Rattle.std.proofs.Math.Seq.{take-length}
 use Rattle.std.proofs.lemmas.Nat.{div-add-mod'}
-use Rattle.mlu_eq.proofs.Groups.{flat_map-runs}
+use Rattle.mlu_ring.specs.Lanes.{logical}
+use Rattle.mlu_eq.proofs.Groups.{lanes_more}
 use Rattle.multilinear_util.proofs.packing.packed.Goals as goal
+
+pub loop-i-preserved : goal.loop-i-preserved
+loop-i-preserved g c =
+    let width = g.F.Packing.PackedValue.WIDTH in
+    let lanes = g.EF.ExtensionPacking.PackedFieldExtension.ext_lanes in
+    let evals = c.args.evals.now in
+    let i = c.loop-i.i in
+    let size : i * width + width - i * width ≡ width = omega arith in
+    ap (logical lanes) c.in_ok-push.ensures.items
+    ∙ lanes_more width lanes c.loop-i.elements.items c.from_ext_slice.result evals i c.loop-i.invariant
+    (c.from_ext_slice.ensures ∙ ap (λ n. take (i * n + n - i * n) (drop (i * n) evals)) c.WIDTH-width.ensures ∙ ap (λ n. take n (drop (i * width) evals)) size)
 
 pub returns : goal.returns
 returns g c =
     let width = g.F.Packing.PackedValue.WIDTH in
     let evals = c.args.evals.now in
-    let groups : length c.loop-i.elements.items ≡ length evals / width = c.loop-i.invariant.size ∙ ap (λ n. length evals / n) c.WIDTH-width.ensures in
+    let groups : c.loop-i.i ≡ length evals / c.WIDTH-width.result = omega arith in
+    let same : length evals / c.WIDTH-width.result ≡ length evals / width = ap (λ n. length evals / n) c.WIDTH-width.ensures in
     let whole : length evals ≡ length evals / width * width = omega (arith, div-add-mod' (length evals) width, c.requires) in
-    flat_map-runs width g.EF.ExtensionPacking.PackedFieldExtension.ext_lanes c.loop-i.elements.items evals
-    (whole ∙ ap (λ n. n * width) (sym groups))
-    (λ k d h. c.loop-i.invariant.done k d (omega arith))
+    c.loop-i.invariant ∙ ap (λ n. take (n * width) evals) (groups ∙ same) ∙ ap (λ n. take n evals) (sym whole) ∙ take-length evals
