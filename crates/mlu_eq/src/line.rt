@@ -5,7 +5,8 @@
 ghost use Rattle.std.specs.Prelude.{◌≡◌};
 ghost use Rattle.mlu_eq.specs.Combine.{combined, interpolated};
 
-use mlu_ring::{Additive, Algebra, PrimeCharacteristicRing};
+use mlu_kernel::one_row::scale_by_packing;
+use mlu_ring::{Additive, Algebra, ExtensionField, Field, PrimeCharacteristicRing};
 
 /// `low + r * (high - low)`.
 #[inline(always)]
@@ -29,6 +30,20 @@ pub fn interpolate_base_at_fixed<F: Additive, EF: Algebra<F>>(low: F, high: F, r
     ensures { result ≡ interpolated EF.ring r (EF.embed low) (EF.embed high) }
 {
     EF::from_base(high - low).times_fixed(r).plus(low)
+}
+
+/// [`interpolate_base`] of the images of two packings.
+#[inline(always)]
+pub fn interpolate_packing<F: Field, EF: ExtensionField<F>>(
+    low: F::Packing,
+    high: F::Packing,
+    r: EF::ExtensionPacking,
+) -> EF::ExtensionPacking
+    ensures { result ≡ interpolated EF.ExtensionPacking.ring r
+        (⟦<EF::ExtensionPacking as Algebra<F::Packing>>⟧.embed low)
+        (⟦<EF::ExtensionPacking as Algebra<F::Packing>>⟧.embed high) }
+{
+    scale_by_packing::<F, EF>(r, high - low).plus(low)
 }
 
 /// The same at the image of a base element.

@@ -5,7 +5,9 @@ ghost use Rattle.std.specs.Prelude.{◌≡◌, ◌+◌, ◌<◌, ◌≤◌, ◌/
 ghost use Rattle.mlu_ring.specs.Lanes.{logical};
 ghost use Rattle.mlu_ring.specs.Tables.{front, line};
 
-use crate::line::{add_scaled, interpolate_at_base, interpolate_base, interpolate_base_at_fixed};
+use crate::line::{
+    add_scaled, interpolate_at_base, interpolate_base_at_fixed, interpolate_packing,
+};
 use mlu_ring::{
     Additive, Algebra, ExtensionField, Field, PackedFieldExtension, PackedValue,
     PrimeCharacteristicRing,
@@ -81,7 +83,7 @@ fn fold_group_at<F: Field, EF: ExtensionField<F>>(
 {
     let end = start + <F::Packing as PackedValue>::WIDTH;
     let (low, high) = entries.split_at(entries.len() / 2);
-    interpolate_base(
+    interpolate_packing::<F, EF>(
         F::Packing::load(&low[start..end]),
         F::Packing::load(&high[start..end]),
         <EF::ExtensionPacking as Algebra<EF>>::from_base(r),

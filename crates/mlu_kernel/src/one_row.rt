@@ -11,6 +11,23 @@ use mlu_ring::{
     row_of_width,
 };
 
+/// The product with a packing of the base: one product in lanes for each coefficient.
+#[inline]
+pub fn scale_by_packing<F: Field, EF: ExtensionField<F>>(
+    packed: EF::ExtensionPacking,
+    factor: F::Packing,
+) -> EF::ExtensionPacking
+    ensures { result ≡ EF.ExtensionPacking.ring.product packed
+        (⟦<EF::ExtensionPacking as Algebra<F::Packing>>⟧.embed factor) }
+{
+    let mut scaled = packed;
+    for k in 0..EF::DIMENSION {
+        let product = F::lanes_mul(packed.packed_coefficient(k), factor);
+        scaled.set_packed_coefficient(k, product);
+    }
+    scaled
+}
+
 /// The packed weights times a row: a value whose lanes add up to the dot. Asks for as many entries
 /// as the weights have lanes.
 #[inline]
@@ -25,7 +42,7 @@ pub fn row_dot_in_lanes<F: Field, EF: ExtensionField<F>>(
     let mut sum = EF::ExtensionPacking::ZERO;
     for i in 0..weights.len() {
         let block = F::Packing::load(row_of_width(row, F::Packing::WIDTH, i));
-        sum = sum + weights[i].scale(block);
+        sum = sum + scale_by_packing::<F, EF>(weights[i], block);
     }
     sum
 }
@@ -57,6 +74,6 @@ pub fn add_row_times<F: Field, EF: ExtensionField<F>>(
     let weights = EF::ExtensionPacking::from_base(weight);
     for z in 0..out.len() {
         let block = F::Packing::load(row_of_width(row, F::Packing::WIDTH, z));
-        out[z] = out[z] + weights.scale(block);
+        out[z] = out[z] + scale_by_packing::<F, EF>(weights, block);
     }
 }

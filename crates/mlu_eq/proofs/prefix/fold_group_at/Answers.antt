@@ -25,7 +25,7 @@ returns g c =
     let upper = upper_run embed entries c.split_at.result.1.now (lanes_of c.load-2.result) (lanes high) width n start size c.split_at.ensures.back c.load-2.ensures (packed.embeds_packing c.load-2.result) in
     let same : lanes c.from_base.result ≡ replicate width r = ap lanes c.from_base.ensures ∙ packed.embeds_element r in
     let halved : length entries / 2 ≡ length (map embed entries) / 2 = sym (ap (λ n. n / 2) (length-map entries embed)) in
-    ap lanes c.interpolate_base.ensures
+    ap lanes c.interpolate_packing.ensures
     ∙ lanes-interpolated width lanes g.EF.ExtensionPacking.Additive.ring ring packed.lane_by_lane c.from_base.result r low high (packed.lanes_are.length-parts low) (packed.lanes_are.length-parts high) same
     ∙ ap (λ t. zip2 (interpolated ring r) t (lanes high)) lower
     ∙ ap (λ t. zip2 (interpolated ring r) (take width (drop start (take (length entries / 2) (map embed entries)))) t) upper

@@ -29,10 +29,10 @@ loop-i-preserved g c =
     let ring = g.EF.Additive.ring in
     let packed = g.EF.ExtensionPacking.PackedFieldExtension in
     let met = g.met.EF.ExtensionPacking.PackedFieldExtension in
-    let added = g.met.EF.ExtensionPacking.Additive.adds c.loop-i.sum c.scale.result c.add-sum.result c.add-sum.ensures in
+    let added = g.met.EF.ExtensionPacking.Additive.adds c.loop-i.sum c.scale_by_packing.result c.add-sum.result c.add-sum.ensures in
     let block = block-embedded g.EF.Algebra.embed c.args.row.now c.loop-i.i c.WIDTH.result g.F.Packing.PackedValue.WIDTH c.row_of_width.result.now (g.F.Packing.PackedValue.lanes c.load-block.result) (packed.ext_lanes (g.EF.ExtensionPacking.Algebra-2.embed c.load-block.result))
     (met.embeds_packing c.load-block.result) c.load-block.ensures c.row_of_width.ensures c.WIDTH.ensures in
-    ap (λ p. sum_of ring (packed.ext_lanes p)) (added ∙ ap (g.EF.ExtensionPacking.Additive.ring.sum c.loop-i.sum) c.scale.ensures)
+    ap (λ p. sum_of ring (packed.ext_lanes p)) (added ∙ ap (g.EF.ExtensionPacking.Additive.ring.sum c.loop-i.sum) c.scale_by_packing.ensures)
     ∙ total-dot_more g.EF.ExtensionPacking.Additive.ring ring g.met.EF.Additive.laws packed.ext_lanes packed.of_ext_lanes g.F.Packing.PackedValue.WIDTH met.lanes_are met.lane_by_lane
     c.loop-i.sum c.index-weights-i.result (g.EF.ExtensionPacking.Algebra-2.embed c.load-block.result) c.args.weights.now (map g.EF.Algebra.embed c.args.row.now) c.loop-i.i
     c.loop-i-test.true c.index-weights-i.is block c.loop-i.invariant

@@ -1,0 +1,8 @@
+use Rattle.std.proofs.Common.{◌≡◌, ℕ, ◌<◌, get_or}
+use Rattle.mlu_kernel.proofs.one_row.scale_by_packing.Given as goal
+
+abbrev pub invariant-loop-k : goal.invariant-loop-k
+invariant-loop-k g l =
+    let packing = g.F.Packing.Additive.ring in
+    let packed_coefficients = g.EF.ExtensionPacking.PackedFieldExtension.packed_coefficients in
+    (c : ℕ) → c < l.k → get_or (packed_coefficients l.scaled) c packing.zero ≡ packing.product (get_or (packed_coefficients l.packed) c packing.zero) l.factor
