@@ -6,11 +6,13 @@ use crate::field::Field;
 use crate::packed::{Lanewise, PackedValue};
 use crate::ring::PrimeCharacteristicRing;
 use crate::tally::Tally;
+use std::mem::size_of;
 
 /// What multiplies for code over [`Lanewise`], which has no product of its own.
 ///
 /// `made` counts the products of single elements, and `groups` the sums of four packed products.
-/// Both are whole numbers without a bound, and no call but these three changes them.
+/// Both are whole numbers without a bound, and no call but these three changes them. A meter itself
+/// knows `F` as a field, so that its own bodies make no other product is read, not proved.
 pub trait Meter<F: Lanewise> {
     ghost made: { Self → ℕ };
 
@@ -42,6 +44,8 @@ pub struct Unmetered {
     products: Tally,
     fours: Tally,
 }
+
+const _: () = prove!(size_of::<Unmetered>() == 0);
 
 impl Unmetered {
     ghost use Rattle.mlu_ring.specs.Meters.{products_of, groups_of};

@@ -2,6 +2,7 @@
 ghost use Rattle.std.specs.Prelude.{◌≡◌, ◌∷◌, [], ℕ, ◌<◌, IfOk, IsOk, if◌then◌else◌, replicate, length, slice_index_or};
 ghost use Rattle.mlu_ring.specs.Fours.{AreLong, places};
 ghost use Rattle.mlu_ring.specs.Tables.{pair};
+ghost use Rattle.std.specs.Vec.{vec_capacity};
 
 use crate::additive::Additive;
 use std::alloc::{AllocError, Global};
@@ -160,10 +161,13 @@ pub trait PrimeCharacteristicRing: Additive + Mul<Self, Output = Self> {
     /// Where the growth is refused.
     final fn zero_vec(alloc: Global, len: usize) -> Result<Vec<Self>, AllocError>
         ensures zeros { IfOk result (λ zeros. zeros.items ≡ replicate len Self.ring.zero) }
+        ensures exact { IfOk result (λ zeros. vec_capacity zeros ≡ len) }
         ensures none { len ≡ 0 → IsOk result }
     {
         let mut zeros = Vec::with_capacity(alloc, len)?;
-        zeros.resize(len, Self::ZERO)?;
+        for _ in 0..len {
+            zeros.push_reserved(Self::ZERO);
+        }
         Ok(zeros)
     }
 
