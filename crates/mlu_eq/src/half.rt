@@ -182,7 +182,7 @@ pub fn to_field<F: Field, EF: ExtensionField<F>, R: ExtensionField<R> + MapFrom<
     }
 }
 
-/// The images of the elements, in order and in one growth of exactly as many.
+/// The images of the elements, in order and in one growth of exactly as many. None at all do not fail.
 ///
 /// # Errors
 /// Where the growth is refused.
@@ -190,11 +190,13 @@ pub fn images<E: Additive, R: MapFrom<E>>(
     alloc: Global,
     elements: &[E],
 ) -> Result<Vec<R>, AllocError>
-    ensures { IfOk result (λ images. images.items ≡ map R.image elements.now) }
+    ensures images { IfOk result (λ images. images.items ≡ map R.image elements.now) }
+    ensures exact { IfOk result (λ images. vec_capacity images ≡ length elements.now) }
+    ensures none { length elements.now ≡ 0 → IsOk result }
 {
     let mut images = Vec::with_capacity(alloc, elements.len())?;
     for element in elements {
-        images.push(R::map(*element))?;
+        images.push_reserved(R::map(*element));
     }
     Ok(images)
 }

@@ -28,9 +28,9 @@ pub fn fold_prefix<F: Additive, EF: Algebra<F>>(
     ensures few { length entries.now < 2 → IsOk result }
 {
     let half = entries.len() / 2;
-    let mut folded = EF::zero_vec(alloc, half)?;
+    let mut folded = Vec::with_capacity(alloc, half)?;
     for i in 0..half {
-        folded[i] = fold_prefix_at(entries, r, i);
+        folded.push_reserved(fold_prefix_at(entries, r, i));
     }
     Ok(folded)
 }
@@ -65,7 +65,7 @@ pub fn fold_prefix_to_packed<F: Field, EF: ExtensionField<F>>(
     let groups = entries.len() / 2 / width;
     let mut folded = Vec::with_capacity(alloc, groups)?;
     for i in 0..groups {
-        folded.push(fold_group_at::<F, EF>(entries, r, i * width))?;
+        folded.push_reserved(fold_group_at::<F, EF>(entries, r, i * width));
     }
     Ok(folded)
 }

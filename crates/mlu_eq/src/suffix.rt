@@ -21,9 +21,10 @@ pub fn fold_suffix<F: Additive, EF: Algebra<F>>(
     ensures few { length entries.now < 2 → IsOk result }
 {
     let half = entries.len() / 2;
-    let mut folded = EF::zero_vec(alloc, half)?;
+    let mut folded = Vec::with_capacity(alloc, half)?;
     for i in 0..half {
-        folded[i] = interpolate_base_at_fixed(entries[2 * i], entries[2 * i + 1], r);
+        let entry = interpolate_base_at_fixed(entries[2 * i], entries[2 * i + 1], r);
+        folded.push_reserved(entry);
     }
     Ok(folded)
 }
@@ -38,9 +39,10 @@ pub fn fold_suffix_by_base<R: Additive, F: Algebra<R>>(
     ensures few { length entries.now < 2 → IsOk result }
 {
     let half = entries.len() / 2;
-    let mut folded = F::zero_vec(alloc, half)?;
+    let mut folded = Vec::with_capacity(alloc, half)?;
     for i in 0..half {
-        folded[i] = interpolate_at_base(entries[2 * i], entries[2 * i + 1], r);
+        let entry = interpolate_at_base(entries[2 * i], entries[2 * i + 1], r);
+        folded.push_reserved(entry);
     }
     Ok(folded)
 }

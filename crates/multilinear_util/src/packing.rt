@@ -20,7 +20,8 @@ pub(crate) fn packed<F: Field, EF: ExtensionField<F>>(
     let mut elements = Vec::with_capacity(alloc, groups)?;
     for i in 0..groups {
         let start = i * width;
-        elements.push(EF::ExtensionPacking::from_ext_slice(&evals[start..start + width]))?;
+        let packing = EF::ExtensionPacking::from_ext_slice(&evals[start..start + width]);
+        elements.push_reserved(packing);
     }
     Ok(elements)
 }

@@ -9,6 +9,7 @@ use super::QuarticExtension;
 use crate::coefficients::Coefficients;
 use mlu_lanes::{BabyBear, LaneWidth, Lanes};
 use mlu_ring::{ExtensionField, Field, Lanewise, PackedValue, PrimeCharacteristicRing};
+use std::mem::size_of;
 
 impl<const W: usize> Lanewise for QuarticExtension<BabyBear<W>> {
     type Packing = Lanes<Self, 1>;
@@ -21,7 +22,7 @@ impl<const W: usize> Field for QuarticExtension<BabyBear<W>> {
 
     #[inline]
     fn bytes() -> usize {
-        16
+        size_of::<Self>()
     }
 
     // As tables by one coordinate split each entry.

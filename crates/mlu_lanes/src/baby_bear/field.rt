@@ -8,6 +8,7 @@ use super::packed::{product_reduced, products, scaled, sum_reduced};
 use crate::lanes::{LaneWidth, Lanes};
 use crate::words::wide_sums;
 use mlu_ring::{Field, Lanewise};
+use std::mem::size_of;
 
 impl<const W: usize> Lanewise for BabyBear<W>
 where
@@ -26,7 +27,7 @@ where
 
     #[inline]
     fn bytes() -> usize {
-        4
+        size_of::<Self>()
     }
 
     #[inline(always)]

@@ -6,6 +6,7 @@ ghost use Rattle.mlu_lanes.specs.WrappingU64.{wrapping_ring};
 use super::WrappingU64;
 use crate::lanes::{LaneWidth, Lanes};
 use mlu_ring::{Field, Lanewise};
+use std::mem::size_of;
 
 impl<const W: usize> Lanewise for WrappingU64<W>
 where
@@ -24,7 +25,7 @@ where
 
     #[inline]
     fn bytes() -> usize {
-        8
+        size_of::<Self>()
     }
 
     #[inline]

@@ -1,5 +1,6 @@
 //! Equality tables filled chunk after chunk, each from the weight of its high coordinates.
-ghost use Rattle.std.specs.Prelude.{◌≡◌, ◌+◌, ◌-◌, ◌*◌, ◌^◌, ◌<◌, ◌≤◌, length, map, IfOk, IsOk, OnErr, is_ok, if◌then◌else◌};
+ghost use Rattle.std.specs.Prelude.{◌≡◌, ◌+◌, ◌-◌, ◌*◌, ◌^◌, ◌<◌, ◌≤◌, length, map, IfOk, IsOk, OnErr, is_ok, if◌then◌else◌, replicate};
+ghost use Rattle.std.specs.Vec.{vec_capacity};
 ghost use Rattle.mlu_point.specs.Orders.{weights_by, joined_by, scaled_by_each};
 
 use super::metered::fill_by_meter;
@@ -22,12 +23,15 @@ fn split_high<R>(coords: &[R], order: BitOrder, low_variables: usize) -> (&[R], 
     }
 }
 
-/// So many zeros, in one growth.
+/// So many zeros, in one growth of exactly as many.
 fn zeros<F: Additive>(alloc: Global, len: usize) -> Result<Vec<F>, AllocError>
-    ensures { IfOk result (λ zeros. length zeros.items ≡ len) }
+    ensures zeros { IfOk result (λ zeros. zeros.items ≡ replicate len F.ring.zero) }
+    ensures exact { IfOk result (λ zeros. vec_capacity zeros ≡ len) }
 {
     let mut zeros = Vec::with_capacity(alloc, len)?;
-    zeros.resize(len, F::ZERO)?;
+    for _ in 0..len {
+        zeros.push_reserved(F::ZERO);
+    }
     Ok(zeros)
 }
 
@@ -42,6 +46,7 @@ fn scaled_weights<F: Lanewise, M: Meter<F>>(
 ) -> Result<Vec<F>, AllocError>
     requires { 2 ^ length coords.now < 2 ^ 64 }
     ensures table { IfOk result (λ table. table.items ≡ map (F.ring.product scale) (weights_by order F.ring coords.now)) }
+    ensures exact { IfOk result (λ table. vec_capacity table ≡ 2 ^ length coords.now) }
     ensures made { M.made meter.new ≡ M.made meter.old + (if is_ok result then 2 ^ length coords.now - 1 else 0) }
     ensures groups { M.groups meter.new ≡ M.groups meter.old }
 {
@@ -110,6 +115,7 @@ pub(super) fn weights_by_meter<F: Lanewise, M: Meter<F>>(
     requires fits { 2 ^ length coords.now < 2 ^ 64 }
     requires low { low_variables ≤ length coords.now }
     ensures table { IfOk result (λ table. table.items ≡ weights_by order F.ring coords.now) }
+    ensures exact { IfOk result (λ table. vec_capacity table ≡ 2 ^ length coords.now) }
     ensures made { M.made meter.new ≡ M.made meter.old + (if is_ok result then 2 ^ length coords.now - 1 else 0) }
     ensures groups { M.groups meter.new ≡ M.groups meter.old }
 {
@@ -127,7 +133,8 @@ pub(super) fn equality_table<F: Field>(
     order: BitOrder,
 ) -> Result<Vec<F>, AllocError>
     requires { 2 ^ length coords.now < 2 ^ 64 }
-    ensures { IfOk result (λ table. table.items ≡ weights_by order F.ring coords.now) }
+    ensures table { IfOk result (λ table. table.items ≡ weights_by order F.ring coords.now) }
+    ensures exact { IfOk result (λ table. vec_capacity table ≡ 2 ^ length coords.now) }
 {
     weights_by_meter(alloc, coords, order, coords.len(), &mut Unmetered::new())
 }

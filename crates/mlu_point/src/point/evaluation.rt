@@ -34,12 +34,13 @@ impl<F: Field> Point<F> {
     }
 
     /// The point `(y^(2^(n-1)), .., y^2, y)`, at which a table has the value at `y` of the
-    /// polynomial with its entries as coefficients.
+    /// polynomial with its entries as coefficients. The point of no variables does not fail.
     ///
     /// # Errors
     /// Where memory is refused.
     pub fn expand_from_univariate(alloc: Global, y: F, n: usize) -> Result<Self, AllocError>
-        ensures { IfOk result (λ point. point ≡ powers F.ring y n) }
+        ensures point { IfOk result (λ point. point ≡ powers F.ring y n) }
+        ensures none { n ≡ 0 → IsOk result }
     {
         let mut coords = F::zero_vec(alloc, n)?;
         fill_powers(coords.as_mut_slice(), y);

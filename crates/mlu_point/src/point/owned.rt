@@ -3,6 +3,7 @@ ghost use Rattle.std.specs.Prelude.{◌≡◌, ◌+◌, ◌-◌, ◌^◌, ◌<�
 ghost use Rattle.std.specs.declared.alloc.Global.{Global};
 ghost use Rattle.std.specs.Cmp.Lexicographic.{pointwise, lists_per, lists_equiv};
 ghost use Rattle.std.specs.Slice.Iter.{iter_rest, iter_steps};
+ghost use Rattle.std.specs.Vec.{vec_capacity};
 ghost use Rattle.std.specs.Vec.Iter.{into_iter_items, into_iter_steps};
 ghost use Rattle.std.specs.Iterator.Runs.{YieldsRefsInOrder, YieldsInOrder};
 ghost use Rattle.mlu_ring.specs.Tables.{weights, lsb};
@@ -192,6 +193,7 @@ impl<F: Lanewise> Point<F> {
         requires fits { 2 ^ length self.now < 2 ^ 64 }
         requires low { low_variables ≤ length self.now }
         ensures table { IfOk result (λ table. table.items ≡ weights_by order F.ring self.now) }
+        ensures exact { IfOk result (λ table. vec_capacity table ≡ 2 ^ length self.now) }
         ensures made { M.made meter.new ≡ M.made meter.old + (if is_ok result then 2 ^ length self.now - 1 else 0) }
         ensures groups { M.groups meter.new ≡ M.groups meter.old }
     {
@@ -204,7 +206,8 @@ impl<F: Field> Point<F> {
     /// As [`PointView::equality_weights_msb`].
     pub fn equality_weights_msb(&self, alloc: Global) -> Result<Vec<F>, AllocError>
         requires { 2 ^ length self.now < 2 ^ 64 }
-        ensures { IfOk result (λ table. table.items ≡ weights F.ring self.now) }
+        ensures table { IfOk result (λ table. table.items ≡ weights F.ring self.now) }
+        ensures exact { IfOk result (λ table. vec_capacity table ≡ 2 ^ length self.now) }
     {
         self.as_view().equality_weights_msb(alloc)
     }
@@ -212,7 +215,8 @@ impl<F: Field> Point<F> {
     /// As [`PointView::equality_weights_lsb`].
     pub fn equality_weights_lsb(&self, alloc: Global) -> Result<Vec<F>, AllocError>
         requires { 2 ^ length self.now < 2 ^ 64 }
-        ensures { IfOk result (λ table. table.items ≡ lsb F.ring self.now) }
+        ensures table { IfOk result (λ table. table.items ≡ lsb F.ring self.now) }
+        ensures exact { IfOk result (λ table. vec_capacity table ≡ 2 ^ length self.now) }
     {
         self.as_view().equality_weights_lsb(alloc)
     }

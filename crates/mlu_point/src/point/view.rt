@@ -145,6 +145,7 @@ impl<'a, F: Copy> PointView<'a, F> {
 
 impl<F: Lanewise> PointView<'_, F> {
     ghost use Rattle.std.specs.Prelude.{◌≡◌, ◌+◌, ◌-◌, ◌^◌, ◌<◌, ◌≤◌, length, map, IfOk, IsOk, OnErr, is_ok, if◌then◌else◌};
+    ghost use Rattle.std.specs.Vec.{vec_capacity};
     ghost use Rattle.mlu_point.specs.Orders.{weights_by};
     ghost use Rattle.mlu_point.specs.Views.{coordinates};
 
@@ -212,6 +213,7 @@ impl<F: Lanewise> PointView<'_, F> {
         requires fits { 2 ^ length (coordinates self.now) < 2 ^ 64 }
         requires low { low_variables ≤ length (coordinates self.now) }
         ensures table { IfOk result (λ table. table.items ≡ weights_by order F.ring (coordinates self.now)) }
+        ensures exact { IfOk result (λ table. vec_capacity table ≡ 2 ^ length (coordinates self.now)) }
         ensures made { M.made meter.new ≡ M.made meter.old + (if is_ok result then 2 ^ length (coordinates self.now) - 1 else 0) }
         ensures groups { M.groups meter.new ≡ M.groups meter.old }
     {
@@ -221,6 +223,7 @@ impl<F: Lanewise> PointView<'_, F> {
 
 impl<F: Field> PointView<'_, F> {
     ghost use Rattle.std.specs.Prelude.{◌≡◌, ◌^◌, ◌<◌, length, IfOk};
+    ghost use Rattle.std.specs.Vec.{vec_capacity};
     ghost use Rattle.mlu_ring.specs.Tables.{weights, lsb};
     ghost use Rattle.mlu_point.specs.Vertices.{IsWeightAt};
     ghost use Rattle.mlu_point.specs.Views.{coordinates};
@@ -232,7 +235,8 @@ impl<F: Field> PointView<'_, F> {
     /// Where the one growth of exactly `2^n` elements is refused.
     pub fn equality_weights_msb(&self, alloc: Global) -> Result<Vec<F>, AllocError>
         requires { 2 ^ length (coordinates self.now) < 2 ^ 64 }
-        ensures { IfOk result (λ table. table.items ≡ weights F.ring (coordinates self.now)) }
+        ensures table { IfOk result (λ table. table.items ≡ weights F.ring (coordinates self.now)) }
+        ensures exact { IfOk result (λ table. vec_capacity table ≡ 2 ^ length (coordinates self.now)) }
     {
         equality_table(alloc, self.coords, BitOrder::Msb)
     }
@@ -244,7 +248,8 @@ impl<F: Field> PointView<'_, F> {
     /// Where the one growth of exactly `2^n` elements is refused.
     pub fn equality_weights_lsb(&self, alloc: Global) -> Result<Vec<F>, AllocError>
         requires { 2 ^ length (coordinates self.now) < 2 ^ 64 }
-        ensures { IfOk result (λ table. table.items ≡ lsb F.ring (coordinates self.now)) }
+        ensures table { IfOk result (λ table. table.items ≡ lsb F.ring (coordinates self.now)) }
+        ensures exact { IfOk result (λ table. vec_capacity table ≡ 2 ^ length (coordinates self.now)) }
     {
         equality_table(alloc, self.coords, BitOrder::Lsb)
     }
