@@ -4,7 +4,7 @@
 //! one share for the lower half of the output and one for the upper half. The first variables give
 //! the chunks of the output; in a chunk of enough variables the last ones are the lanes of packed
 //! shares, and those between split these.
-ghost use Rattle.std.specs.Prelude.{◌≡◌, ◌==◌, ℕ, ◌+◌, ◌-◌, ◌*◌, ◌<◌, ◌≤◌, ◌/◌, ◌^◌, ◌++◌, length, map, slice_index_or, replicate, is_ok, IsOk, IfOk, if◌then◌else◌};
+ghost use Rattle.std.specs.Prelude.{◌≡◌, ℕ, ◌+◌, ◌-◌, ◌*◌, ◌<◌, ◌≤◌, ◌/◌, ◌^◌, ◌++◌, length, map, slice_index_or, replicate, is_ok, IsOk, IfOk, if◌then◌else◌};
 ghost use Rattle.mlu_point.specs.Batches.{with_batch, after_batch, IsRoom};
 
 mod evaluator;
@@ -158,7 +158,8 @@ fn variables_of_chunk<F: Field>(variables: usize) -> usize
 
 /// The places for the lanes of one packed share, where a chunk leaves variables to packed shares.
 fn lane_places<F: Field>(variables: usize) -> usize
-    ensures { result ≡ (if variables == 0 then 0 else F.Packing.WIDTH) }
+    ensures some { 0 < variables → result ≡ F.Packing.WIDTH }
+    ensures none { variables ≡ 0 → result ≡ 0 }
 {
     if variables == 0 {
         0
@@ -175,8 +176,8 @@ fn packed_space<F: Field, EF: ExtensionField<F>>(
 ) -> Result<Vec<EF::ExtensionPacking>, AllocError>
     requires fits { variables * points < 2 ^ 64 }
     requires lanes { 0 < variables → F.Packing.LOG_WIDTH ≤ variables }
-    ensures { IfOk result (λ space. length space.items
-        ≡ (if variables == 0 then 0 else (variables - F.Packing.LOG_WIDTH) * points + points)) }
+    ensures some { IfOk result (λ space. 0 < variables → length space.items ≡ (variables - F.Packing.LOG_WIDTH) * points + points) }
+    ensures none { variables ≡ 0 → IfOk result (λ space. length space.items ≡ 0) }
 {
     if variables == 0 {
         return EF::ExtensionPacking::zero_vec(alloc, 0);
