@@ -9,7 +9,7 @@ use Rattle.mlu_eq.proofs.half.to_field.Goals as goal
 
 pub from_scalars-requires : goal.from_scalars-requires
 from_scalars-requires g c =
-    subst (λ m. IsTrue (is_power_of_two m)) (sym (ap length c.in_ok-images-in-Scalar.ensures ∙ length-map c.as_slice.result.now g.R.MapFrom.image)) c.as_slice.ensures.power
+    subst (λ m. IsTrue (is_power_of_two m)) (sym (ap length c.in_ok-images-in-Scalar.ensures.images ∙ length-map c.as_slice.result.now g.R.MapFrom.image)) c.as_slice.ensures.power
 
 pub from_scalars-requires-in-Packed : goal.from_scalars-requires-in-Packed
 from_scalars-requires-in-Packed g c =

@@ -1,4 +1,4 @@
-use Rattle.std.proofs.Common.{◌≡◌, ◌*◌, ◌/◌, ◌∙◌, length, map, take, drop, refl, sym, ap, arith}
+use Rattle.std.proofs.Common.{◌≡◌, ◌+◌, ◌*◌, ◌/◌, ◌∙◌, length, map, take, drop, refl, sym, ap, arith}
 use Rattle.std.proofs.Math.Seq.{take-length}
 use Rattle.std.proofs.lemmas.List.{length-map}
 use Rattle.std.proofs.lemmas.Nat.{div-add-mod'}
@@ -15,9 +15,13 @@ loop-i-preserved g c =
     let lanes = g.EF.ExtensionPacking.PackedFieldExtension.ext_lanes in
     let folded = front ring (line ring c.args.r) (map g.EF.Algebra.embed c.args.entries.now) in
     let i = c.loop-i.i in
-    ap (logical lanes) c.in_ok-push.ensures.items
-    ∙ lanes_more width lanes c.loop-i.folded.items c.fold_group_at.result folded i c.loop-i.invariant
-    (c.fold_group_at.ensures ∙ ap (λ n. take width (drop (i * n) folded)) c.WIDTH-width.ensures)
+    record {
+      lanes = ap (logical lanes) c.push_reserved.ensures.items
+          ∙ lanes_more width lanes c.loop-i.folded.items c.fold_group_at.result folded i c.loop-i.invariant.lanes
+          (c.fold_group_at.ensures ∙ ap (λ n. take width (drop (i * n) folded)) c.WIDTH-width.ensures);
+      len = c.push_reserved.ensures.len ∙ ap (λ n. n + 1) c.loop-i.invariant.len;
+      capacity = c.push_reserved.ensures.capacity ∙ c.loop-i.invariant.capacity;
+    }
 
 pub returns : goal.returns
 returns g c =
@@ -31,6 +35,6 @@ returns g c =
     let whole : half ≡ half / width * width = omega (arith, div-add-mod' half width, c.requires) in
     let long : length folded ≡ half = length-front ring (line ring c.args.r) entries half (ap (λ n. n / 2) (length-map c.args.entries.now g.EF.Algebra.embed)) in
     record {
-      folded = c.loop-i.invariant ∙ ap (λ n. take (n * width) folded) (groups ∙ same) ∙ ap (λ n. take n folded) (sym (long ∙ whole)) ∙ take-length folded;
+      folded = c.loop-i.invariant.lanes ∙ ap (λ n. take (n * width) folded) (groups ∙ same) ∙ ap (λ n. take n folded) (sym (long ∙ whole)) ∙ take-length folded;
       few = λ h. refl;
     }

@@ -12,9 +12,13 @@ loop-i-preserved g c =
     let evals = c.args.evals.now in
     let i = c.loop-i.i in
     let size : i * width + width - i * width ≡ width = omega arith in
-    ap (logical lanes) c.in_ok-push.ensures.items
-    ∙ lanes_more width lanes c.loop-i.elements.items c.from_ext_slice.result evals i c.loop-i.invariant
-    (c.from_ext_slice.ensures ∙ ap (λ n. take (i * n + n - i * n) (drop (i * n) evals)) c.WIDTH-width.ensures ∙ ap (λ n. take n (drop (i * width) evals)) size)
+    record {
+      lanes = ap (logical lanes) c.push_reserved.ensures.items
+          ∙ lanes_more width lanes c.loop-i.elements.items c.from_ext_slice-packing.result evals i c.loop-i.invariant.lanes
+              (c.from_ext_slice-packing.ensures ∙ ap (λ n. take (i * n + n - i * n) (drop (i * n) evals)) c.WIDTH-width.ensures ∙ ap (λ n. take n (drop (i * width) evals)) size);
+      len = c.push_reserved.ensures.len ∙ ap (λ n. n + 1) c.loop-i.invariant.len;
+      capacity = c.push_reserved.ensures.capacity ∙ c.loop-i.invariant.capacity;
+    }
 
 pub returns : goal.returns
 returns g c =
@@ -23,4 +27,4 @@ returns g c =
     let groups : c.loop-i.i ≡ length evals / c.WIDTH-width.result = omega arith in
     let same : length evals / c.WIDTH-width.result ≡ length evals / width = ap (λ n. length evals / n) c.WIDTH-width.ensures in
     let whole : length evals ≡ length evals / width * width = omega (arith, div-add-mod' (length evals) width, c.requires) in
-    c.loop-i.invariant ∙ ap (λ n. take (n * width) evals) (groups ∙ same) ∙ ap (λ n. take n evals) (sym whole) ∙ take-length evals
+    c.loop-i.invariant.lanes ∙ ap (λ n. take (n * width) evals) (groups ∙ same) ∙ ap (λ n. take n evals) (sym whole) ∙ take-length evals
