@@ -126,6 +126,7 @@ refusals mlu_refusals
 refusals mlu
 refusals mlu_replay_refusals
 faulty 2 'mlu: length' -- eval 1,2,3 2
+faulty 2 'mlu: usage' -- sumcheck 3,4 2 5 6
 faulty 3 'mlu: memory' --fail-alloc 1 -- eval 1,2,3,4 2,3
 refused_replay 1 &
 refused_replay 2

@@ -57,6 +57,39 @@ impl Write for Slow {
     }
 }
 
+/// A writer that fails at one call alone, and counts its calls.
+#[derive(Drop)]
+struct Once {
+    fails_at: usize,
+    calls: usize,
+}
+
+impl Once {
+    fn new(fails_at: usize) -> Once {
+        Once { fails_at, calls: 0 }
+    }
+
+    fn call(&mut self) -> io::Result<()> {
+        let call = self.calls;
+        self.calls = call.saturating_add(1);
+        if call == self.fails_at {
+            return Err(ErrorKind::Other.into());
+        }
+        Ok(())
+    }
+}
+
+impl Write for Once {
+    fn write(&mut self, buf: &[u8]) -> io::Result<usize> {
+        self.call()?;
+        Ok(buf.len())
+    }
+
+    fn flush(&mut self) -> io::Result<()> {
+        self.call()
+    }
+}
+
 /// The answer of one line.
 fn line(alloc: Global) -> Result<Vec<u8>, AllocError> {
     Vec::from_slice(alloc, b"8\n")
@@ -105,4 +138,15 @@ fn a_write_or_the_flush_fails(rt: HostRuntime) -> Result<(), Fail> {
         assert_eq!(rt; out.taken, 0);
     }
     Ok(())
+}
+
+#[test]
+fn nothing_follows_a_failure(rt: HostRuntime) {
+    for fails_at in 0..2 {
+        if let Ok(line) = line(rt.alloc()) {
+            let (mut out, mut err) = (Once::new(fails_at), Once::new(99));
+            assert_eq!(rt; emit(Ok(line), &mut out, &mut err), 4);
+            assert_eq!(rt; (out.calls, err.calls), (fails_at + 1, 0));
+        }
+    }
 }
