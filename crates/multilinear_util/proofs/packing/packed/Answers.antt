@@ -15,7 +15,7 @@ loop-i-preserved g c =
     record {
       lanes = ap (logical lanes) c.push_reserved.ensures.items
           ∙ lanes_more width lanes c.loop-i.elements.items c.from_ext_slice-packing.result evals i c.loop-i.invariant.lanes
-              (c.from_ext_slice-packing.ensures ∙ ap (λ n. take (i * n + n - i * n) (drop (i * n) evals)) c.WIDTH-width.ensures ∙ ap (λ n. take n (drop (i * width) evals)) size);
+          (c.from_ext_slice-packing.ensures ∙ ap (λ n. take (i * n + n - i * n) (drop (i * n) evals)) c.WIDTH-width.ensures ∙ ap (λ n. take n (drop (i * width) evals)) size);
       len = c.push_reserved.ensures.len ∙ ap (λ n. n + 1) c.loop-i.invariant.len;
       capacity = c.push_reserved.ensures.capacity ∙ c.loop-i.invariant.capacity;
     }
