@@ -1,5 +1,5 @@
 -- Tables in both orders.
-use Rattle.std.proofs.Common.{◌≡◌, suc, ◌^◌, List, [], ◌∷◌, ◌++◌, map, length, set, refl, sym, ap, ◌∙◌, arith, length-append}
+use Rattle.std.proofs.Common.{◌≡◌, suc, ◌^◌, List, [], ◌∷◌, ◌++◌, map, length, set, refl, sym, ap, arith, length-append}
 use Rattle.std.proofs.lemmas.List.{map-append}
 use Rattle.mlu_ring.specs.Ring.{Ring, RingLaws}
 use Rattle.mlu_ring.proofs.Rings.{product_one}

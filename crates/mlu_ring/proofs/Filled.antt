@@ -1,19 +1,11 @@
 -- A list that a loop fills place by place.
-use Rattle.std.proofs.Common.{◌≡◌, ◌<◌, ◌≤◌, ◌≢◌, ◌+◌, ℕ, List, [], ◌∷◌, ◌++◌, length, map, get_or, set, sym, ap, ◌∙◌, arith, get_or-set_other, get_or-set_same, length-set, below_more}
-use Rattle.std.proofs.Math.Seq.{get_or-append_seam}
-use Rattle.std.proofs.lemmas.List.{ext_get_or, get_or-map, get_or_append_left, get_or_default}
+use Rattle.std.proofs.Common.{◌≡◌, ◌<◌, ◌≤◌, ◌≢◌, ◌+◌, ℕ, List, length, map, get_or, set, sym, ap, ◌∙◌, arith, get_or-set_other, get_or-set_same, length-set, below_more}
+use Rattle.std.proofs.lemmas.List.{ext_get_or, get_or-map, get_or_default}
 
 module _ {A : Type 0} (d : A) where
   -- below n the list xs has the entries that f gives
   abbrev pub IsFilledBy : List A → (ℕ → A) → ℕ → Type 0
   IsFilledBy xs f n = (k : ℕ) → k < n → get_or xs k d ≡ f k
-
-  -- one entry is pushed
-  pub filled_by_pushed : (xs : List A) (f : ℕ → A) (n : ℕ) (x : A) → length xs ≡ n → IsFilledBy xs f n → x ≡ f n → IsFilledBy (xs ++ x ∷ []) f (n + 1)
-  filled_by_pushed xs f n x long done e =
-      below_more _ _
-      (λ k h. get_or_append_left xs (x ∷ []) d k (omega (arith, long)) ∙ done k h)
-      (ap (λ m. get_or (xs ++ x ∷ []) m d) (sym long) ∙ get_or-append_seam xs x [] d ∙ e)
 
   pub filled_by_next : (xs : List A) (f : ℕ → A) (n : ℕ) (x : A) → n < length xs → IsFilledBy xs f n → x ≡ f n → IsFilledBy (set xs n x) f (n + 1)
   filled_by_next xs f n x room done e =
