@@ -19,19 +19,3 @@ pub fn log2_ceil_usize(n: usize) -> usize
 {
     (usize::BITS - n.saturating_sub(1).leading_zeros()) as usize
 }
-
-#[cfg(test)]
-mod tests {
-    use super::*;
-
-    #[test]
-    fn logarithms(rt: HostRuntime) {
-        assert_eq!(rt; log2_strict_usize(1), 0);
-        assert_eq!(rt; log2_strict_usize(1024), 10);
-        assert_eq!(rt; log2_ceil_usize(0), 0);
-        assert_eq!(rt; log2_ceil_usize(1), 0);
-        assert_eq!(rt; log2_ceil_usize(5), 3);
-        assert_eq!(rt; log2_ceil_usize(8), 3);
-        assert_eq!(rt; log2_ceil_usize(usize::MAX), 64);
-    }
-}

@@ -42,20 +42,3 @@ pub fn row_range(length: usize, rows: usize, j: usize) -> Range<usize>
     let start = j * width;
     start..start + width
 }
-
-#[cfg(test)]
-mod tests {
-    use super::*;
-
-    #[test]
-    fn rows_of_a_slice(rt: HostRuntime) {
-        let values = [1u32, 2, 3, 4, 5, 6];
-        assert_eq!(rt; row_of(&values, 3, 1), &[3, 4][..]);
-        assert_eq!(rt; row_of(&values, 2, 1), &[4, 5, 6][..]);
-        assert_eq!(rt; row_of_width(&values, 2, 2), &[5, 6][..]);
-        let row = row_range(values.len(), 3, 2);
-        assert_eq!(rt; &values[row], &[5, 6][..]);
-        let none: [u32; 0] = [];
-        assert!(rt; row_of(&none, 2, 1).is_empty());
-    }
-}

@@ -1,6 +1,6 @@
 use Rattle.std.proofs.Common.{refl}
 use Rattle.mlu_ring.proofs.PowersOfTwo.{is_power_of_two-power}
-use Rattle.mlu_ring.proofs.logarithm.tests.logarithms.Goals as goal
+use Rattle.mlu_ring_tests.proofs.tests.logarithms.logarithms.Goals as goal
 
 pub log2_strict_usize-requires : goal.log2_strict_usize-requires
 log2_strict_usize-requires g c = is_power_of_two-power 1 0 refl
