@@ -3,7 +3,7 @@ ghost use Rattle.std.specs.Prelude.{◌≡◌, ◌<◌, ◌*◌, IfOk, length};
 
 use crate::both_forms::{both_forms_agree, both_forms_agree_at_few};
 use mlu_ext::{ProductAlgebra, QuarticExtension};
-use mlu_kernel::one_row::{lane_sum, row_dot_in_lanes};
+use mlu_kernel::one_row::{lane_sum, row_dot_in_lanes, scale_by_packing};
 use mlu_kernel::rows::row_dots;
 use mlu_kernel::{
     compress_hi_dot_packed, compress_hi_dot_packed_eager, compress_prefix_to_packed_packed,
@@ -242,14 +242,18 @@ fn dot_of_two_rows<F: Field, EF: ExtensionField<F>>(alloc: Global) -> Result<boo
     Ok(dots == elements(alloc, &[30, 70])? && dots_are::<F, EF>(&eq1, &chunk, &eq0, element(730)))
 }
 
-/// Whether the lanes of the dot of one row of four lanes add up to 70.
+/// Whether the lanes of the dot of one row of four lanes add up to 70, and twice each weight to 20.
 fn lanes_of_one_row<F: Field, EF: ExtensionField<F>>(alloc: Global) -> Result<bool, AllocError> {
     if F::Packing::WIDTH != 4 {
         return Ok(false);
     }
     let eq1 = packed::<F, EF>(alloc, &elements(alloc, &[1, 2, 3, 4])?, 1)?;
     let row = elements(alloc, &[5, 6, 7, 8])?;
-    Ok(lane_sum::<F, EF>(row_dot_in_lanes::<F, EF>(&eq1, &row)) == element(70))
+    let doubled = scale_by_packing::<F, EF>(eq1[0], F::Packing::splat(F::TWO));
+    Ok(
+        lane_sum::<F, EF>(row_dot_in_lanes::<F, EF>(&eq1, &row)) == element(70)
+            && lane_sum::<F, EF>(doubled) == element(20),
+    )
 }
 
 /// Whether four rows of four lanes, each times two, are added up.
