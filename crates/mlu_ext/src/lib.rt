@@ -3,8 +3,6 @@
 //! [`QuarticExtension`] and [`ProductAlgebra`] are rings over any ring, so over packed values too,
 //! which they take as they are: the packed form of an extension has packed coefficients. Over
 //! [`BabyBear`](mlu_lanes::BabyBear) they are fields of the library, for each width.
-//!
-//! Stands on `mlu_ring`, whose traits it implements, and on `mlu_lanes`.
 #![tactic(auto)]
 
 mod coefficients;

@@ -12,10 +12,11 @@ mod trivial_extension;
 
 /// `D` elements of `R`, whose operators work on each for itself.
 ///
-/// A ring over any ring `R`, for every `D`: of no elements, `ZERO` equals `ONE`. Over `BabyBear<W>` it
-/// is a field of the library, packed by itself in one lane, whose `bytes` are `4 D`, or the greatest
-/// `usize` where that is less; at the widths of a packing also an extension of `BabyBear<W>` with the
-/// `D` entries as coefficients, packed as `ProductAlgebra<Lanes<BabyBear<W>, W>, D>`.
+/// A ring over any ring `R`, for every `D`: of no elements, `ZERO` equals `ONE`. Over `BabyBear<W>`
+/// it is a field of the library, packed by itself in one lane, whose `bytes` are `4 D`, or the
+/// greatest `usize` where that is less; at the widths of a packing also an extension of
+/// `BabyBear<W>` with the `D` entries as coefficients, packed as
+/// `ProductAlgebra<Lanes<BabyBear<W>, W>, D>`.
 #[derive(Debug, PartialEq, Eq)]
 pub struct ProductAlgebra<R, const D: usize> {
     copies: Lanes<R, D>,

@@ -7,9 +7,10 @@ mod trivial_extension;
 
 /// `c0 + c1 X + c2 X^2 + c3 X^3`, where `X^4` is 11.
 ///
-/// A ring over any ring `R`, so over packed values of it too. Over `BabyBear<W>` it is a field of the
-/// library, of 16 bytes an element, packed by itself in one lane; at the widths of a packing also an
-/// extension of `BabyBear<W>` with the four coefficients, packed as `QuarticExtension<Lanes<BabyBear<W>, W>>`.
+/// A ring over any ring `R`, so over packed values of it too. Over `BabyBear<W>` it is a field of
+/// the library, of 16 bytes an element, packed by itself in one lane; at the widths of a packing
+/// also an extension of `BabyBear<W>` with the four coefficients, packed as
+/// `QuarticExtension<Lanes<BabyBear<W>, W>>`.
 #[derive(Clone, Copy, Debug, PartialEq, Eq)]
 pub struct QuarticExtension<R> {
     pub c0: R,

@@ -23,6 +23,32 @@ pub record IsPackedExtension {B E P Q : Type 0} (base : Ring B) (ext : Ring E) (
   pub packed_coefficients_are : IsLists dimension packed_coefficients of_packed_coefficients
   pub transposed : (p : Q) (k c : ℕ) → k < width → c < dimension → get_or (coefficients (get_or (ext_lanes p) k ext.zero)) c base.zero ≡ get_or (lanes (get_or (packed_coefficients p) c packing.zero)) k base.zero
 
+-- the laws of a packed extension, from those of the traits of F, of EF and of its packed form
+pub packed_extension : {B E P Q : Type 0} {base : Ring B} {ext : Ring E} {packing : Ring P} {packed : Ring Q} {width dimension : ℕ} {lanes : P → List B} {of_lanes : List B → P} {coefficients : E → List B} {ext_lanes : Q → List E} {of_ext_lanes : List E → Q} {packed_coefficients : Q → List P} {of_packed_coefficients : List P → Q} {embed : B → E} {embed_packing : P → Q} {of_coefficients : List B → E}
+    → IsLists width lanes of_lanes → IsLaneByLane width lanes packing base → RingLaws packing
+    → RingLaws ext → IsLists dimension coefficients of_coefficients
+    → ((a b : E) → coefficients (ext.sum a b) ≡ zip2 base.sum (coefficients a) (coefficients b))
+    → ((a : E) (f : B) → coefficients (ext.product a (embed f)) ≡ map (λ c. base.product c f) (coefficients a))
+    → RingLaws packed → IsLists width ext_lanes of_ext_lanes → IsLaneByLane width ext_lanes packed ext → ((f : P) → ext_lanes (embed_packing f) ≡ map embed (lanes f))
+    → IsLists dimension packed_coefficients of_packed_coefficients
+    → ((p : Q) (k c : ℕ) → k < width → c < dimension → get_or (coefficients (get_or (ext_lanes p) k ext.zero)) c base.zero ≡ get_or (lanes (get_or (packed_coefficients p) c packing.zero)) k base.zero)
+    → IsPackedExtension base ext packing packed width dimension lanes of_lanes coefficients ext_lanes of_ext_lanes packed_coefficients of_packed_coefficients embed embed_packing
+packed_extension lanes_are lane_by_lane packing_laws ext_laws coefficients_are sum scale packed_laws ext_lanes_are ext_lane_by_lane embeds_packing packed_coefficients_are transposed = record {
+  ext_laws = ext_laws;
+  packing_laws = packing_laws;
+  packed_laws = packed_laws;
+  lanes_are = lanes_are;
+  lane_by_lane = lane_by_lane;
+  length-coefficients = coefficients_are.length-parts;
+  coefficients_sum = sum;
+  coefficients_scale = scale;
+  ext_lanes_are = ext_lanes_are;
+  ext_lane_by_lane = ext_lane_by_lane;
+  embeds_packing = embeds_packing;
+  packed_coefficients_are = packed_coefficients_are;
+  transposed = transposed;
+}
+
 module _ {B E P Q : Type 0} {base : Ring B} {ext : Ring E} {packing : Ring P} {packed : Ring Q} {width dimension : ℕ} {lanes : P → List B} {of_lanes : List B → P} {coefficients : E → List B} {ext_lanes : Q → List E} {of_ext_lanes : List E → Q} {packed_coefficients : Q → List P} {of_packed_coefficients : List P → Q} {embed : B → E} {embed_packing : P → Q} (laws : IsPackedExtension base ext packing packed width dimension lanes of_lanes coefficients ext_lanes of_ext_lanes packed_coefficients of_packed_coefficients embed embed_packing) where
   -- packed values of the base with the same lanes
   by_lanes : (x y : P) → ((k : ℕ) → k < width → get_or (lanes x) k base.zero ≡ get_or (lanes y) k base.zero) → x ≡ y

@@ -5,8 +5,11 @@ ghost use Rattle.mlu_ring.specs.Tables.{pair};
 
 use mlu_ring::{Additive, Lanewise, Meter};
 
-/// The sums of the products of each row of `cs` and `rhs`, place by place: entry `k` is the sum over
-/// `i` of `cs[k][i] * rhs[i]`. Zeros where the rows are empty.
+/// The products that are summed before they are reduced.
+const GROUP: usize = 4;
+
+/// The sums of the products of each row of `cs` and `rhs`, place by place: entry `k` is the sum
+/// over `i` of `cs[k][i] * rhs[i]`. Zeros where the rows are empty.
 ///
 /// Each of the `D` sums asks `rhs.len() / 4` groups of four products of the meter, and the rest as
 /// single packed products. Asks for `D` rows, each as long as `rhs`.
@@ -56,6 +59,3 @@ fn row_dot<F: Lanewise, M: Meter<F>>(
     }
     sum
 }
-
-/// The products that are summed before they are reduced.
-const GROUP: usize = 4;

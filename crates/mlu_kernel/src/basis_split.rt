@@ -19,10 +19,10 @@ use mlu_ring::{
     row_of, row_of_width,
 };
 
-/// The packed weights that a column has room for.
+/// The most packed weights of a column.
 pub(crate) const MOST_WEIGHTS: usize = 128;
 
-/// The columns that a dot takes.
+/// The most coefficients that are split into columns.
 pub(crate) const MOST_COEFFICIENTS: usize = 8;
 
 /// The coefficients of the weights, a column for each. The places past the weights are zeros.

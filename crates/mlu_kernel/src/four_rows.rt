@@ -114,7 +114,7 @@ fn block<F: Lanewise>(row: &[F], z: usize) -> F::Packing
     F::Packing::load(row_of_width(row, F::Packing::WIDTH, z))
 }
 
-/// The packed value, and added to it four blocks, each times its weight.
+/// `packed` plus the four blocks, each times its weight.
 #[inline]
 fn plus_four_products<F: Field, EF: ExtensionField<F>>(
     packed: EF::ExtensionPacking,

@@ -1,16 +1,14 @@
-//! The two kernels that join packed weights with a table of base elements.
+//! Kernels that join packed weights with a table of base elements.
 //!
-//! [`compress_hi_dot_packed`] sums the entries of a chunk, each times the weight of its row and
-//! the weight of its column; [`compress_prefix_to_packed_packed`] adds the rows of a chunk, each
-//! times its weight, to a packed output. The weights of the columns, or of the rows, come packed:
-//! their lanes, joined in order, are the logical weights that the contracts name.
+//! [`compress_hi_dot_packed`] sums the entries of a chunk, each times the weights of its row and
+//! its column; [`rows::row_dots`] gives the dot of each row; [`compress_prefix_to_packed_packed`]
+//! adds the rows, each times its weight, to a packed output. Packed weights stand for their lanes,
+//! joined in order. [`packed_basis_dot`] gives dots of packed values, whose products a meter makes.
 //!
-//! Each kernel has an eager form, which reduces each product at once and serves every width and
-//! dimension. Where elements are small enough for the stack, the dot goes by columns of
+//! Each of the first three has an eager form, which reduces each product at once and serves every
+//! width and dimension. Where elements are small enough for the stack, dots go by columns of
 //! coefficients and the prefix kernel by four rows: both reduce once per four products. None of
 //! them takes memory.
-//!
-//! Stands on `mlu_ring`; the split tables of `mlu_eq` stand on it.
 #![tactic(auto)]
 
 mod basis_dot;

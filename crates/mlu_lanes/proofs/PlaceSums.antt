@@ -1,5 +1,5 @@
 -- Sums of four products place by place, from residues that are reduced once.
-use Rattle.std.proofs.Common.{◌≡◌, ℕ, ◌+◌, ◌*◌, ◌%◌, List, [], ◌∷◌}
+use Rattle.std.proofs.Common.{◌≡◌, ℕ, ◌+◌, ◌*◌, ◌%◌, List, [], ◌∷◌, get_or}
 use Rattle.mlu_ring.specs.Fours.{places}
 use Rattle.mlu_ring.specs.Tables.{pair}
 use Rattle.mlu_lanes.specs.BabyBear.{baby_bear_ring, canonical, reduced}
@@ -23,3 +23,7 @@ module _ {W : ℕ} (a b c d p q r s : List (BabyBear W)) where
 abbrev pub row_at_times : {W : ℕ} → List (BabyBear W) → List (BabyBear W) → List (BabyBear W) → List (BabyBear W) → BabyBear W → BabyBear W → BabyBear W
     → BabyBear W → ℕ → BabyBear W
 row_at_times {W} a b c d p q r s k = pair (baby_bear_ring W) (places a b c d k (reduced 0)) (p ∷ q ∷ r ∷ s ∷ [])
+
+-- the sum of the entries at place k
+abbrev pub both_at : {W : ℕ} → List (BabyBear W) → List (BabyBear W) → ℕ → BabyBear W
+both_at {W} a b k = (baby_bear_ring W).sum (get_or a k (reduced 0)) (get_or b k (reduced 0))

@@ -4,8 +4,6 @@
 //! and a packed value at the widths 1, 2, 4, 8 and 16. [`BabyBear`] has the integers modulo
 //! 2013265921 and [`WrappingU64`] those modulo 2^64; at these widths both are fields of the
 //! library, packed by their lanes. Each proves every law of the traits that it implements.
-//!
-//! Stands on `mlu_ring` and `rand`; the extensions and the program stand on this crate.
 #![tactic(auto)]
 
 mod baby_bear;

@@ -96,6 +96,8 @@ pub fn shifted_right<const W: usize>(words: Simd<u64, W>, bits: u64) -> Simd<u64
     each_shifted_right(words, wide_all(bits))
 }
 
+/// The lanes without their lowest bits, in each as many as its lane of `bits` says. Asks for fewer
+/// than 64.
 #[inline(always)]
 fn each_shifted_right<const W: usize>(words: Simd<u64, W>, bits: Simd<u64, W>) -> Simd<u64, W>
     requires { (j : ℕ) → j < W → slice_index bits j < 64 }
@@ -112,6 +114,7 @@ pub fn lower_halves<const W: usize>(words: Simd<u64, W>) -> Simd<u64, W>
     masked(words, wide_all(4294967295))
 }
 
+/// The bits of each lane that its mask has too.
 #[inline(always)]
 fn masked<const W: usize>(words: Simd<u64, W>, mask: Simd<u64, W>) -> Simd<u64, W>
     ensures { (j : ℕ) → j < W → slice_index result j ≡ bit_and (slice_index words.entry j) (slice_index mask.entry j) }

@@ -4,6 +4,7 @@ use Rattle.std.specs.Prelude.{if◌then◌else◌}
 use Rattle.std.specs.List.{range_with_len}
 use Rattle.std.specs.Simd.Lanes.{zip2}
 use Rattle.std.proofs.lemmas.Bool.{ne_eqb}
+use Rattle.std.proofs.lemmas.List.{get_or-map, length-map}
 use Rattle.std.proofs.lemmas.List.FromFn.{length-map-range_with_len, get_or-map-range_with_len, fill_by_all}
 use Rattle.std.proofs.Math.Nat.{mul-div_cancel}
 use Rattle.mlu_ring.specs.Ring.{Ring, RingLaws}
@@ -158,7 +159,6 @@ module _ {R : Type 0} (ring : Ring R) (laws : RingLaws ring) where
       let set_flag : not (nat_eq flag 0) ≡ true = ap not (ne_eqb flag 0 is) in
       rw set_flag (left-nothing values s out none)
 
-  pub batch-cleared : (flag : ℕ) (values s out cleared : List R) → flag ≡ 0 → length s ≡ 0 → length cleared ≡ length out → ((k : ℕ) → k < length out → get_or cleared k 𝟘 ≡ 𝟘)
-      → cleared ≡ left_by ring (not (nat_eq flag 0)) out (batch ring values s (length out))
-  batch-cleared zero values s out cleared is none long zeros = zeros-batch values s cleared (length out) none long zeros
-  batch-cleared (suc flag) values s out cleared is none long zeros = absurd (omega arith)
+  pub batch-cleared : (flag : ℕ) (values s out : List R) → flag ≡ 0 → length s ≡ 0 → map (λ x. 𝟘) out ≡ left_by ring (not (nat_eq flag 0)) out (batch ring values s (length out))
+  batch-cleared zero values s out is none = zeros-batch values s (map (λ x. 𝟘) out) (length out) none (length-map out (λ x. 𝟘)) (λ k h. get_or-map (λ x. 𝟘) out k 𝟘 𝟘 h)
+  batch-cleared (suc flag) values s out is none = absurd (omega arith)

@@ -4,15 +4,17 @@
 //! one share for the lower half of the output and one for the upper half. The first variables give
 //! the chunks of the output; in a chunk of enough variables the last ones are the lanes of packed
 //! shares, and those between split these.
-ghost use Rattle.std.specs.Prelude.{◌≡◌, ℕ, ◌+◌, ◌-◌, ◌*◌, ◌<◌, ◌≤◌, ◌/◌, ◌^◌, ◌++◌, length, map, slice_index_or, replicate, is_ok, IsOk, IfOk, if◌then◌else◌};
+ghost use Rattle.std.specs.Prelude.{◌≡◌, ℕ, ◌+◌, ◌-◌, ◌*◌, ◌<◌, ◌≤◌, ◌/◌, ◌^◌, ◌++◌, length, map, replicate, is_ok, IsOk, IfOk, if◌then◌else◌};
 ghost use Rattle.mlu_point.specs.Batches.{with_batch, after_batch, IsRoom};
 
 mod evaluator;
 mod lanes;
 mod shares;
 
-use evaluator::{BaseFieldEvaluator, ExtFieldEvaluator, PackedEvaluator};
+use crate::evaluator::EmbeddedCoordinates;
+use evaluator::{ExtFieldEvaluator, PackedEvaluator};
 use lanes::add_chunk;
+use mlu_ring::place_by_place::clear;
 use mlu_ring::{
     Additive, ExtensionField, Field, PackedValue, PrimeCharacteristicRing, RowMajorMatrixView,
 };
@@ -56,10 +58,11 @@ pub fn eval_eq_base_batch<F: Field, EF: ExtensionField<F>, const INITIALIZED: bo
     ensures left { out.new ≡ after_batch EF.ring (is_ok result) INITIALIZED out.old (map EF.embed evals.entry.values.now) scalars.now }
     ensures no_points { length scalars.now ≡ 0 → IsOk result }
 {
-    evaluate::<F, EF, F, BaseFieldEvaluator, INITIALIZED>(alloc, evals, out, scalars, 0)
+    evaluate::<F, EF, F, EmbeddedCoordinates, INITIALIZED>(alloc, evals, out, scalars, 0)
 }
 
-/// As [`eval_eq_batch`], with the output in `2^log_chunks` chunks that are made one after the other.
+/// As [`eval_eq_batch`], with the output in `2^log_chunks` chunks that are made one after the
+/// other.
 ///
 /// Asks besides that `log_chunks` is at most the number of variables; with no points it is not
 /// read. The working space has an element more for each scalar and each variable of the chunks.
@@ -93,7 +96,7 @@ pub fn eval_eq_base_batch_in_chunks<F: Field, EF: ExtensionField<F>, const INITI
     ensures left { out.new ≡ after_batch EF.ring (is_ok result) INITIALIZED out.old (map EF.embed evals.entry.values.now) scalars.now }
     ensures no_points { length scalars.now ≡ 0 → IsOk result }
 {
-    evaluate::<F, EF, F, BaseFieldEvaluator, INITIALIZED>(alloc, evals, out, scalars, log_chunks)
+    evaluate::<F, EF, F, EmbeddedCoordinates, INITIALIZED>(alloc, evals, out, scalars, log_chunks)
 }
 
 /// The batch, with all working space taken before the first write.
@@ -187,7 +190,8 @@ fn packed_space<F: Field, EF: ExtensionField<F>>(
     EF::ExtensionPacking::zero_vec(alloc, size)
 }
 
-/// A copy of the scalars, and zeros for the shares of each variable and for lanes, in one growth.
+/// A copy of the scalars, and zeros for the shares of each variable and for lanes, in one
+/// allocation.
 fn working_space<S: PrimeCharacteristicRing>(
     alloc: Global,
     scalars: &[S],
@@ -276,13 +280,4 @@ fn write_or_add<S: Additive, const INITIALIZED: bool>(place: &mut S, value: S)
     ensures { place.new ≡ (if INITIALIZED then S.ring.sum place.old value else value) }
 {
     *place = if INITIALIZED { *place + value } else { value };
-}
-
-/// Writes zeros.
-fn clear<S: Additive>(out: &mut [S])
-    ensures { (k : ℕ) → k < length out.old → slice_index_or out.new k S.ring.zero ≡ S.ring.zero }
-{
-    for x in out.iter_mut() {
-        *x = S::ZERO;
-    }
 }

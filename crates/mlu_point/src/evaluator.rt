@@ -7,6 +7,7 @@ use mlu_ring::{Additive, Algebra, PrimeCharacteristicRing};
 pub(crate) trait EqualityEvaluator<C, S: PrimeCharacteristicRing> {
     ghost image: { C → S };
 
+    /// The product of the share and the coordinate's image.
     fn multiply(share: S, coordinate: C) -> S
         ensures { result ≡ S.ring.product share (image coordinate) };
 }

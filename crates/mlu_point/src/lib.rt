@@ -4,8 +4,6 @@
 //! answers. An equality table lists the weights of all vertices at a point, and a batch adds up
 //! the tables of many points, each with a scalar. Contracts name the definitions of `mlu_ring`:
 //! `weights`, `lsb`, `value`, `transposed` and `batch`.
-//!
-//! Stands on `mlu_ring` and `rand`; the polynomials stand on this crate.
 #![tactic(auto)]
 
 pub mod eq_batch;

@@ -1,5 +1,5 @@
 -- A list that a loop fills place by place.
-use Rattle.std.proofs.Common.{◌≡◌, ◌<◌, ◌≤◌, ◌≢◌, ◌+◌, ℕ, List, length, map, get_or, set, sym, ap, ◌∙◌, arith, get_or-set_other, get_or-set_same, length-set, below_more}
+use Rattle.std.proofs.Common.{◌≡◌, ◌<◌, ◌≤◌, ◌≢◌, ◌+◌, ℕ, List, length, map, get_or, set, sym, ap, ◌∙◌, arith, get_or-set_other, get_or-set_same, below_more, subst, lit<}
 use Rattle.std.proofs.lemmas.List.{ext_get_or, get_or-map, get_or_default}
 
 module _ {A : Type 0} (d : A) where
@@ -13,22 +13,16 @@ module _ {A : Type 0} (d : A) where
       (λ k h. let other : k ≢ n = omega arith in get_or-set_other xs n k x d other ∙ done k h)
       (get_or-set_same xs n x d room ∙ e)
 
-  -- four places more
-  pub filled_by_four : (xs : List A) (f : ℕ → A) (n m : ℕ) (w x y z : A) → m ≡ n + 4 → n + 3 < length xs → IsFilledBy xs f n
-      → w ≡ f n → x ≡ f (n + 1) → y ≡ f (n + 2) → z ≡ f (n + 3)
-      → IsFilledBy (set (set (set (set xs n w) (n + 1) x) (n + 2) y) (n + 3) z) f m
-  filled_by_four xs f n m w x y z end room done ew ex ey ez =
-      let one = set xs n w in
-      let two = set one (n + 1) x in
-      let three = set two (n + 2) y in
-      let long_one = length-set xs n w in
-      let long_two = length-set one (n + 1) x in
-      let long_three = length-set two (n + 2) y in
-      let upto_one = filled_by_next xs f n w (omega arith) done ew in
-      let upto_two = filled_by_next one f (n + 1) x (omega (arith, long_one)) upto_one ex in
-      let upto_three = filled_by_next two f (n + 2) y (omega (arith, long_one, long_two)) (λ k h. upto_two k (omega arith)) ey in
-      let upto_four = filled_by_next three f (n + 3) z (omega (arith, long_one, long_two, long_three)) (λ k h. upto_three k (omega arith)) ez in
-      λ k h. upto_four k (omega arith)
+  -- four places more, which the list ys has
+  pub filled_by_four : (xs ys : List A) (f : ℕ → A) (n m : ℕ) → m ≡ n + 4 → IsFilledBy xs f n → ((k : ℕ) → k < n → get_or ys k d ≡ get_or xs k d)
+      → ((j : ℕ) → j < 4 → get_or ys (n + j) d ≡ f (n + j)) → IsFilledBy ys f m
+  filled_by_four xs ys f n m end done before four =
+      let first : n + 0 ≡ n = omega arith in
+      let upto_one : IsFilledBy ys f (n + 1) = below_more _ n (λ k h. before k h ∙ done k h) (subst (λ i. get_or ys i d ≡ f i) first (four 0 (lit< tt))) in
+      let upto_two : IsFilledBy ys f (n + 1 + 1) = below_more _ (n + 1) upto_one (four 1 (lit< tt)) in
+      let upto_three : IsFilledBy ys f (n + 2 + 1) = below_more _ (n + 2) (λ k h. upto_two k (omega arith)) (four 2 (lit< tt)) in
+      let upto_four : IsFilledBy ys f (n + 3 + 1) = below_more _ (n + 3) (λ k h. upto_three k (omega arith)) (four 3 (lit< tt)) in
+      λ k h. upto_four k (omega (arith, end))
 
   -- or those of ys
   abbrev pub IsFilled : List A → List A → ℕ → Type 0

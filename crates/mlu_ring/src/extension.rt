@@ -14,6 +14,7 @@ use crate::ring::PrimeCharacteristicRing;
 /// A ring whose elements are lists of `DIMENSION` coefficients in `F`, and each coefficient is
 /// linear over `F`.
 pub trait ExtensionField<F: Field>: Field + Algebra<F> {
+    /// The packed form of the extension over that of `F`.
     type ExtensionPacking: PackedFieldExtension<F, Self>;
 
     /// The number of coefficients.
@@ -35,9 +36,9 @@ pub trait ExtensionField<F: Field>: Field + Algebra<F> {
         requires { k < DIMENSION }
         ensures { coefficients self.new ≡ slice_set (coefficients self.old) k c };
 
-    /// The element whose coefficient `k` is `f(k)`. `f` is called once for each of 0, 1, .. in order,
-    /// in the state that the call before left. Asks that each of these calls is allowed wherever
-    /// those before it lead.
+    /// The element whose coefficient `k` is `f(k)`. `f` is called once for each of 0, 1, .. in
+    /// order, in the state that the call before left. Asks that each of these calls is allowed
+    /// wherever those before it lead.
     final fn from_coefficients_fn<G: FnMut(usize) -> F>(mut f: G) -> Self
         requires { AreAllowed (λ s k. G.pre s k) (λ s k c t. G.step s k c t) DIMENSION f }
         ensures { (after : G) × CalledInTurn (λ s k c t. G.step s k c t) DIMENSION
@@ -62,9 +63,9 @@ pub trait ExtensionField<F: Field>: Field + Algebra<F> {
 /// The packed form of the extension `EF` of `F`: as many elements of `EF` side by side as a
 /// packing of `F` has lanes.
 ///
-/// Coefficient `c` of lane `k` is lane `k` of packed coefficient `c`, and the operators work lane by
-/// lane. An element of `EF` stands for itself in every lane, and a packing of `F` for the images of
-/// its lanes.
+/// Coefficient `c` of lane `k` is lane `k` of packed coefficient `c`, and the operators work lane
+/// by lane. An element of `EF` stands for itself in every lane, and a packing of `F` for the images
+/// of its lanes.
 pub trait PackedFieldExtension<F: Field, EF: ExtensionField<F>>: PrimeCharacteristicRing
     + Algebra<EF>
     + Algebra<F::Packing> {
@@ -96,13 +97,14 @@ pub trait PackedFieldExtension<F: Field, EF: ExtensionField<F>>: PrimeCharacteri
         requires { k < EF.DIMENSION }
         ensures { (d : F.Packing) → result ≡ slice_index_or (packed_coefficients self.now) k d };
 
-    /// Puts `c` in the place of coefficient `k` of every lane. Asks that `k` is below the dimension.
+    /// Puts `c` in the place of coefficient `k` of every lane. Asks that `k` is below the
+    /// dimension.
     fn set_packed_coefficient(&mut self, k: usize, c: F::Packing)
         requires { k < EF.DIMENSION }
         ensures { packed_coefficients self.new ≡ slice_set (packed_coefficients self.old) k c };
 
-    /// The packed value whose coefficient `k` is `f(k)`. `f` is called, and asked, as by
-    /// [`ExtensionField::from_coefficients_fn`].
+    /// The packed value whose coefficient `k` is `f(k)`. `f` is called as by
+    /// [`ExtensionField::from_coefficients_fn`], under the same condition.
     final fn from_packed_coefficients_fn<G: FnMut(usize) -> F::Packing>(mut f: G) -> Self
         requires { AreAllowed (λ s k. G.pre s k) (λ s k c t. G.step s k c t) EF.DIMENSION f }
         ensures { (after : G) × CalledInTurn (λ s k c t. G.step s k c t) EF.DIMENSION

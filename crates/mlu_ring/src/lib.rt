@@ -6,8 +6,6 @@
 //!
 //! Definitions stand in `specs/`: [`Ring`] and its laws, sums and products of lists, weights and
 //! values of tables, and what it means for a packed value to work lane by lane.
-//!
-//! Stands on `rand` alone; every other crate stands on this one.
 #![tactic(auto)]
 
 mod additive;

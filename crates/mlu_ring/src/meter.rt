@@ -38,7 +38,7 @@ pub trait Meter<F: Lanewise> {
         ensures groups { groups self.new ≡ groups self.old + 1 };
 }
 
-/// A meter for each field whose numbers contracts alone know: it takes no bytes and no time.
+/// A meter, for any field, that counts for contracts alone: it takes no bytes and no time.
 #[derive(Drop)]
 pub struct Unmetered {
     products: Tally,
@@ -89,7 +89,7 @@ impl<F: Field> Meter<F> for Unmetered {
     }
 }
 
-/// A meter for each field that shows its numbers, as far as `u64` goes.
+/// A meter, for any field, that shows its counts, up to `u64::MAX`.
 #[derive(Drop)]
 pub struct Counter {
     exact: Unmetered,
@@ -115,7 +115,7 @@ impl Counter {
         }
     }
 
-    /// The products made, and `u64::MAX` where they are more.
+    /// The products made, or `u64::MAX` where they are more.
     #[inline]
     pub fn made(&self) -> u64
         ensures { result ≡ min (products_counted self.now) (2 ^ 64 - 1) }
@@ -123,7 +123,7 @@ impl Counter {
         self.made
     }
 
-    /// The groups asked for, and `u64::MAX` where they are more.
+    /// The groups asked for, or `u64::MAX` where they are more.
     #[inline]
     pub fn groups(&self) -> u64
         ensures { result ≡ min (groups_counted self.now) (2 ^ 64 - 1) }

@@ -6,6 +6,7 @@ use crate::additive::Additive;
 
 /// `WIDTH` values of one type side by side: a packed value is the list of its lanes.
 pub trait PackedValue: Additive {
+    /// The type of a lane.
     type Value: Copy + Eq;
 
     /// The number of lanes.
@@ -50,6 +51,7 @@ pub trait PackedValue: Additive {
 ///
 /// No call multiplies, here or on `Packing` as this bound knows it.
 pub trait Lanewise: Additive {
+    /// The packed form.
     type Packing: PackedValue<Value = Self>;
 
     ghost lane_by_lane: { IsLaneByLane Self.Packing.WIDTH Self.Packing.lanes Self.Packing.ring Self.ring };

@@ -1,4 +1,4 @@
-//! Subtraction, multiplication and negation of slices, place by place.
+//! Subtraction, multiplication, negation and zeros of slices, place by place.
 ghost use Rattle.std.specs.Prelude.{◌≡◌, length, map};
 ghost use Rattle.std.specs.Simd.Lanes.{zip2};
 
@@ -34,5 +34,15 @@ pub fn negate_each<R: Additive>(out: &mut [R])
 {
     for x in out.iter_mut() {
         *x = -*x;
+    }
+}
+
+/// Writes zero to each place.
+#[inline]
+pub fn clear<T: Additive>(out: &mut [T])
+    ensures { out.new ≡ map (λ x. T.ring.zero) out.old }
+{
+    for place in out.iter_mut() {
+        *place = T::ZERO;
     }
 }

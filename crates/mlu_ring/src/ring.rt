@@ -8,7 +8,7 @@ use crate::additive::Additive;
 use std::alloc::{AllocError, Global};
 use std::ops::Mul;
 
-/// A commutative ring, with its product.
+/// A commutative ring with one, of any characteristic: the name is the original's.
 pub trait PrimeCharacteristicRing: Additive + Mul<Self, Output = Self> {
     /// `ONE + ONE`.
     const TWO: Self;
@@ -49,8 +49,9 @@ pub trait PrimeCharacteristicRing: Additive + Mul<Self, Output = Self> {
 
     /// The row `l` times a matrix, which is given by its four columns.
     ///
-    /// A product in an extension of degree 4 is one of these. Each entry is [`four_products`](Self::four_products)
-    /// with a column; a ring whose elements fit vectors makes all four at a time.
+    /// A product in an extension of degree 4 is one of these. Each entry is
+    /// [`four_products`](Self::four_products) with a column; a ring whose elements fit vectors
+    /// makes all four at a time.
     #[inline]
     fn row_times_columns(
         l: &(Self, Self, Self, Self),
@@ -78,7 +79,8 @@ pub trait PrimeCharacteristicRing: Additive + Mul<Self, Output = Self> {
 
     /// [`row_times_columns`](Self::row_times_columns) with columns that many rows meet.
     ///
-    /// A ring that can prepare a factor does so here: in a loop over rows the compiler moves that part out.
+    /// A ring that can prepare a factor does so here: in a loop over rows the compiler moves that
+    /// part out.
     #[inline]
     fn row_times_fixed_columns(
         l: &(Self, Self, Self, Self),
@@ -111,8 +113,8 @@ pub trait PrimeCharacteristicRing: Additive + Mul<Self, Output = Self> {
 
     /// The sums of four products, place by place. Asks for slices of one length.
     ///
-    /// Each is [`four_products`](Self::four_products) of the elements at its place; a ring whose elements fit
-    /// vectors makes several at a time.
+    /// Each is [`four_products`](Self::four_products) of the elements at its place; a ring whose
+    /// elements fit vectors makes several at a time.
     #[inline]
     fn each_four_products(
         out: &mut [Self],
@@ -133,8 +135,8 @@ pub trait PrimeCharacteristicRing: Additive + Mul<Self, Output = Self> {
         }
     }
 
-    /// The same sums, place by place, with one column: `out[k]` becomes the row of the elements at `k`
-    /// times the column. Asks for slices of one length.
+    /// The same sums, place by place, with one column: `out[k]` becomes the row of the elements at
+    /// `k` times the column. Asks for slices of one length.
     ///
     /// A ring that can prepare a factor does so once for all places.
     #[inline]
@@ -155,10 +157,10 @@ pub trait PrimeCharacteristicRing: Additive + Mul<Self, Output = Self> {
         }
     }
 
-    /// `len` zeros, in one growth of exactly that many elements. None at all do not fail.
+    /// `len` zeros, in one allocation of exactly that many elements.
     ///
     /// # Errors
-    /// Where the growth is refused.
+    /// Where memory is refused; never where `len` is 0.
     final fn zero_vec(alloc: Global, len: usize) -> Result<Vec<Self>, AllocError>
         ensures zeros { IfOk result (λ zeros. zeros.items ≡ replicate len Self.ring.zero) }
         ensures exact { IfOk result (λ zeros. vec_capacity zeros ≡ len) }

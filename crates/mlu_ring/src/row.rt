@@ -7,8 +7,8 @@ use std::ops::Range;
 /// Row `j` of the slice cut into `rows` rows, whose length is the quotient. Asks that `j` is below
 /// `rows`.
 ///
-/// Where the rows are known to have `n` values each, so has this one: the length of a row need not
-/// be computed where there may be none.
+/// Clauses `exact` and `size` serve a caller who knows that the values are rows of `n` each, and so
+/// does not divide by a number of rows that may be 0.
 #[inline]
 pub fn row_of<T>(values: &[T], rows: usize, j: usize) -> &[T]
     requires { j < rows }

@@ -59,7 +59,7 @@ impl<R: PrimeCharacteristicRing> Algebra<QuarticExtension<R>> for QuarticExtensi
         b
     }
 
-    // As folds by one `b` scale each entry.
+    // Folds scale every entry by the same `b`, so its columns are worth preparing.
     #[inline(always)]
     fn scale(self, b: Self) -> Self {
         self.times_fixed(b)

@@ -25,7 +25,7 @@ impl<const W: usize> Field for QuarticExtension<BabyBear<W>> {
         size_of::<Self>()
     }
 
-    // As tables by one coordinate split each entry.
+    // Tables multiply every entry by the same coordinate, so it is worth preparing.
     #[inline(always)]
     fn lanes_mul(a: Lanes<Self, 1>, b: Lanes<Self, 1>) -> Lanes<Self, 1> {
         Lanes::from_array([a.lane(0).times_fixed(b.lane(0))])

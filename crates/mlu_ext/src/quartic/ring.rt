@@ -67,7 +67,7 @@ impl<R: PrimeCharacteristicRing> Mul for QuarticExtension<R> {
 
     ghost mul_gives = { λ a b r. r ≡ (quartic_ring R.ring).product a b };
 
-    // Always inlined: a loop by one element then makes its eleven-fold coefficients once.
+    // Inlined, so that a loop with the same `rhs` makes its eleven-fold coefficients once.
     #[inline(always)]
     fn mul(self, rhs: Self) -> Self {
         let own = (self.c0, self.c1, self.c2, self.c3);
@@ -200,7 +200,7 @@ impl<R: PrimeCharacteristicRing> PrimeCharacteristicRing for QuarticExtension<R>
     ghost neg_one_is = { constant_neg_one R.ring R.Additive.laws R.zero_is R.neg_one_is };
 }
 
-// What the coefficients of X, X^2 and X^3 become where their powers wrap: eleven times as much.
+/// What the coefficients of X, X^2 and X^3 become where their powers wrap: eleven times as much.
 #[inline(always)]
 pub(super) fn wrapped<R: Additive>(b: QuarticExtension<R>) -> (R, R, R)
     ensures linear { result.0 ≡ R.ring.product (eleven R.ring) b.c1 }
@@ -210,7 +210,7 @@ pub(super) fn wrapped<R: Additive>(b: QuarticExtension<R>) -> (R, R, R)
     (times_eleven(b.c1), times_eleven(b.c2), times_eleven(b.c3))
 }
 
-// Eleven times x, as 8 x + 2 x + x.
+/// Eleven times x, as 8 x + 2 x + x.
 #[inline(always)]
 fn times_eleven<R: Additive>(x: R) -> R
     ensures { result ≡ R.ring.product (eleven R.ring) x }

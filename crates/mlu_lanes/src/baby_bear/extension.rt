@@ -1,4 +1,5 @@
-//! The prime field over itself: the identity as embedding, one coefficient, and the lanes as packed form.
+//! The prime field over itself: the identity as embedding, one coefficient, and the lanes as packed
+//! form.
 ghost use Rattle.std.specs.Prelude.{◌≡◌, ◌∷◌, [], refl, slice_index_or};
 ghost use Rattle.std.proofs.Common.{sym};
 ghost use Rattle.std.proofs.lemmas.List.{map-id};

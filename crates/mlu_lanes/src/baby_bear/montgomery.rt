@@ -1,7 +1,7 @@
 //! Montgomery's reduction lane by lane, for sums of products with prepared factors.
 //!
-//! A factor that meets many elements is multiplied by `2^32` once. The sums of its products then ask two
-//! products each for their residues, where [`reduce_each_word`] asks three.
+//! A factor that meets many elements is multiplied by `2^32` once. The sums of its products then
+//! ask two products each for their residues, where [`reduce_each_word`] asks three.
 ghost use Rattle.std.specs.Prelude.{◌≡◌, ℕ, ◌+◌, ◌-◌, ◌*◌, ◌/◌, ◌%◌, ◌^◌, ◌<◌, slice_index};
 ghost use Rattle.mlu_lanes.specs.BabyBear.{canonical};
 ghost use Rattle.mlu_lanes.specs.declared.baby_bear.reduce_each.TheConstants.{FOLD};
@@ -38,6 +38,7 @@ pub fn prepared<const W: usize>(
     ]
 }
 
+/// The residue of the product with `2^32`.
 #[inline(always)]
 fn prepared_word(residue: u32) -> u32
     requires { residue < MODULUS }
@@ -47,8 +48,8 @@ fn prepared_word(residue: u32) -> u32
     reduce_product(u64::from(residue) * FOLD)
 }
 
-/// The residues whose product with `2^32` has the residue of the lane. Asks for lanes that are at most
-/// the sum of four products of residues.
+/// The residues whose product with `2^32` has the residue of the lane. Asks for lanes that are at
+/// most the sum of four products of residues.
 #[inline(always)]
 pub fn reduce_prepared<const W: usize>(words: Simd<u64, W>) -> Simd<u32, W>
     requires { (j : ℕ) → j < W → slice_index words j < 4 * MODULUS * MODULUS }
@@ -58,7 +59,7 @@ pub fn reduce_prepared<const W: usize>(words: Simd<u64, W>) -> Simd<u32, W>
     residue_differences(upper_residues(words), carried(low_quotients(words)))
 }
 
-// The multiples of the modulus that have the lower halves of the lanes, over the modulus.
+/// The multiples of the modulus that have the lower halves of the lanes, over the modulus.
 #[inline(always)]
 fn low_quotients<const W: usize>(words: Simd<u64, W>) -> Simd<u64, W>
     requires { (j : ℕ) → j < W → slice_index words j < 2 ^ 64 }
@@ -67,7 +68,7 @@ fn low_quotients<const W: usize>(words: Simd<u64, W>) -> Simd<u64, W>
     lower_halves(wide_products(lower_halves(words), wide_all(INVERSE)))
 }
 
-// The upper halves of these multiples.
+/// The upper halves of these multiples.
 #[inline(always)]
 fn carried<const W: usize>(quotients: Simd<u64, W>) -> Simd<u32, W>
     requires { (j : ℕ) → j < W → slice_index quotients j < 2 ^ 32 }
@@ -77,7 +78,7 @@ fn carried<const W: usize>(quotients: Simd<u64, W>) -> Simd<u32, W>
     narrowed(shifted_right(multiples, 32))
 }
 
-// The residues of the upper halves.
+/// The residues of the upper halves.
 #[inline(always)]
 fn upper_residues<const W: usize>(words: Simd<u64, W>) -> Simd<u32, W>
     requires { (j : ℕ) → j < W → slice_index words j < 4 * MODULUS * MODULUS }
@@ -86,7 +87,7 @@ fn upper_residues<const W: usize>(words: Simd<u64, W>) -> Simd<u32, W>
     reduce_each_once(narrowed(shifted_right(words, 32)))
 }
 
-// The differences of residues, as residues.
+/// The differences of residues, as residues.
 #[inline(always)]
 fn residue_differences<const W: usize>(a: Simd<u32, W>, b: Simd<u32, W>) -> Simd<u32, W>
     requires { (j : ℕ) → j < W → (slice_index a j < MODULUS) × (slice_index b j < MODULUS) }

@@ -59,7 +59,7 @@ pub fn residue_products<const W: usize>(a: Simd<u32, W>, b: Simd<u32, W>) -> Sim
     wide_products(widened(a), widened(b))
 }
 
-// The least residues of the lanes. The compiler makes one load of the loop.
+/// The least residues of the lanes. The compiler makes one load of the loop.
 #[inline(always)]
 fn words_of<const W: usize>(p: &Lanes<BabyBear<W>, W>) -> Simd<u32, W>
     ensures value { (j : ℕ) → j < W → slice_index result j ≡ residue p.now j }
@@ -73,7 +73,7 @@ fn words_of<const W: usize>(p: &Lanes<BabyBear<W>, W>) -> Simd<u32, W>
     Simd::from_array(words)
 }
 
-// The packed value with these least residues. The compiler makes one store of the loop.
+/// The packed value with these least residues. The compiler makes one store of the loop.
 #[inline(always)]
 fn lanes_of<const W: usize>(residues: Simd<u32, W>) -> Lanes<BabyBear<W>, W>
     requires { (j : ℕ) → j < W → slice_index residues j < MODULUS }

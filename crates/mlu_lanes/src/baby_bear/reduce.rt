@@ -17,8 +17,8 @@ pub fn reduce_once(x: u32) -> u32
     x.min(x.wrapping_sub(MODULUS))
 }
 
-/// The residue of `x`, with no division. Asks that `x` is below `2^62`, as a product of two residues
-/// is.
+/// The residue of `x`, with no division. Asks that `x` is below `2^62`, as a product of two
+/// residues is.
 ///
 /// `quotient` is the quotient or one less. The remainder by 2^32 takes nothing away: it says that
 /// 32 bits are enough, and lanes of them can be multiplied at a time.

@@ -14,8 +14,9 @@ pub const FOLD: u64 = 268435454;
 
 /// The residues of any lanes.
 ///
-/// Folded by a product and shifted by 29, they are seen to fit 32 bits: three vector products a pair of
-/// lanes. For one word `reduce_word` is better, since there the compiler makes wider products of this.
+/// Folded by a product and shifted by 29, they are seen to fit 32 bits: three vector products a
+/// pair of lanes. For one word `reduce_word` is better, since there the compiler makes wider
+/// products of this.
 #[inline(always)]
 pub fn reduce_each_word<const W: usize>(words: Simd<u64, W>) -> Simd<u32, W>
     requires { (j : ℕ) → j < W → slice_index words j < 2 ^ 64 }
@@ -28,7 +29,7 @@ pub fn reduce_each_word<const W: usize>(words: Simd<u64, W>) -> Simd<u32, W>
     reduce_each_once(narrowed(rest))
 }
 
-// Lanes of the same residues, below 2^61.
+/// Lanes of the same residues, below 2^61.
 #[inline(always)]
 fn folded<const W: usize>(words: Simd<u64, W>) -> Simd<u64, W>
     requires { (j : ℕ) → j < W → slice_index words j < 2 ^ 64 }
@@ -40,7 +41,7 @@ fn folded<const W: usize>(words: Simd<u64, W>) -> Simd<u64, W>
     wide_sums(scaled, low)
 }
 
-// The quotients by the modulus, or one less.
+/// The quotients by the modulus, or one less.
 #[inline(always)]
 fn folded_quotients<const W: usize>(folded: Simd<u64, W>) -> Simd<u64, W>
     requires { (j : ℕ) → j < W → slice_index folded j < 2 ^ 61 }
@@ -52,8 +53,8 @@ fn folded_quotients<const W: usize>(folded: Simd<u64, W>) -> Simd<u64, W>
 }
 
 /// The residues of lanes below 2^62, as products of two residues are: two vector products a pair of
-/// lanes. As in `reduce_product`, the quotients are those by the modulus, or one less, and taking the
-/// lower halves says that 32 bits are enough.
+/// lanes. As in `reduce_product`, the quotients are those by the modulus, or one less, and taking
+/// the lower halves says that 32 bits are enough.
 #[inline(always)]
 pub fn reduce_each_product<const W: usize>(words: Simd<u64, W>) -> Simd<u32, W>
     requires { (j : ℕ) → j < W → slice_index words j < 2 ^ 62 }

@@ -6,12 +6,15 @@ ghost use Rattle.mlu_lanes.specs.Residues.{eq_residues};
 use super::montgomery::prepared;
 use super::reduce::{reduce_once, reduce_product, reduce_word};
 use super::rows::{
-    elements_of, prepared_sums_at, residue_sums_at, sum_of_prepared_rows, sum_of_rows, sums_at,
+    elements_of, prepared_sums_at, put, residue_sums_at, sum_of_prepared_rows, sum_of_rows, sums_at,
 };
 use super::{BabyBear, MODULUS};
 use mlu_ring::{Additive, PrimeCharacteristicRing};
 use std::ops::{Add, Mul, Neg, Sub};
 use std::simd::prelude::*;
+
+/// The places that a vector of sums has.
+const GROUP: usize = 4;
 
 impl<const W: usize> Add for BabyBear<W> {
     type Output = Self;
@@ -82,11 +85,8 @@ impl<const W: usize> Additive for BabyBear<W> {
         let groups = out.len() / GROUP;
         for g in 0..groups {
             let k = GROUP * g;
-            let sums = residue_sums_at(out, b, k).to_array();
-            out[k] = BabyBear { value: sums[0] };
-            out[k + 1] = BabyBear { value: sums[1] };
-            out[k + 2] = BabyBear { value: sums[2] };
-            out[k + 3] = BabyBear { value: sums[3] };
+            let sums = residue_sums_at(out, b, k);
+            put(out, k, sums);
         }
         for k in GROUP * groups..out.len() {
             out[k] = out[k] + b[k];
@@ -183,11 +183,8 @@ impl<const W: usize> PrimeCharacteristicRing for BabyBear<W> {
         let groups = out.len() / GROUP;
         for g in 0..groups {
             let k = GROUP * g;
-            let sums = sums_at(l, r, k).to_array();
-            out[k] = BabyBear { value: sums[0] };
-            out[k + 1] = BabyBear { value: sums[1] };
-            out[k + 2] = BabyBear { value: sums[2] };
-            out[k + 3] = BabyBear { value: sums[3] };
+            let sums = sums_at(l, r, k);
+            put(out, k, sums);
         }
         for k in GROUP * groups..out.len() {
             let left = (l.0[k], l.1[k], l.2[k], l.3[k]);
@@ -207,11 +204,8 @@ impl<const W: usize> PrimeCharacteristicRing for BabyBear<W> {
         let groups = out.len() / GROUP;
         for g in 0..groups {
             let k = GROUP * g;
-            let sums = prepared_sums_at(l, &factors, k).to_array();
-            out[k] = BabyBear { value: sums[0] };
-            out[k + 1] = BabyBear { value: sums[1] };
-            out[k + 2] = BabyBear { value: sums[2] };
-            out[k + 3] = BabyBear { value: sums[3] };
+            let sums = prepared_sums_at(l, &factors, k);
+            put(out, k, sums);
         }
         for k in GROUP * groups..out.len() {
             let row = (l.0[k], l.1[k], l.2[k], l.3[k]);
@@ -228,14 +222,11 @@ impl<const W: usize> PrimeCharacteristicRing for BabyBear<W> {
     ghost neg_one_is = { refl };
 }
 
-/// The places that a vector of sums has.
-const GROUP: usize = 4;
-
 impl<const W: usize> BabyBear<W> {
     ghost use Rattle.std.specs.Prelude.{◌*◌, ◌^◌, ◌<◌};
     ghost use Rattle.mlu_lanes.specs.BabyBear.{canonical};
 
-    // The product of the residues, as integers.
+    /// The product of the residues, as integers.
     #[inline(always)]
     fn unreduced(self, other: Self) -> u64
         ensures value { result ≡ canonical self.entry * canonical other.entry }

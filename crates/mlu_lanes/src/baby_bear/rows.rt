@@ -1,6 +1,7 @@
-//! Sums of four products, four at a time: a row of residues times a matrix, and slices place by place.
-ghost use Rattle.std.specs.Prelude.{◌≡◌, ℕ, ◌+◌, ◌*◌, ◌%◌, ◌^◌, ◌<◌, length, slice_index};
-ghost use Rattle.mlu_lanes.specs.BabyBear.{canonical};
+//! Sums of four products, four at a time: a row of residues times a matrix, and slices place by
+//! place.
+ghost use Rattle.std.specs.Prelude.{◌≡◌, ℕ, ◌+◌, ◌*◌, ◌%◌, ◌^◌, ◌<◌, length, slice_index, slice_index_or};
+ghost use Rattle.mlu_lanes.specs.BabyBear.{canonical, reduced};
 ghost use Rattle.mlu_lanes.specs.Packed.{residue_at};
 
 use super::montgomery::reduce_prepared;
@@ -10,7 +11,8 @@ use super::{BabyBear, MODULUS};
 use crate::words::{all, sums, wide_sums};
 use std::simd::prelude::*;
 
-/// Lane `j` is the residue of the sum of the products of `l` and lane `j` of the rows of the matrix.
+/// Lane `j` is the residue of the sum of the products of `l` and lane `j` of the rows of the
+/// matrix.
 #[inline(always)]
 pub fn sum_of_rows<const W: usize>(
     l: &(BabyBear<W>, BabyBear<W>, BabyBear<W>, BabyBear<W>),
@@ -45,7 +47,7 @@ pub fn sum_of_prepared_rows<const W: usize>(
     reduce_prepared(unreduced_rows(l, rows))
 }
 
-// The sums of the products, as integers.
+/// The sums of the products, as integers.
 #[inline(always)]
 fn unreduced_rows<const W: usize>(
     l: &(BabyBear<W>, BabyBear<W>, BabyBear<W>, BabyBear<W>),
@@ -178,7 +180,7 @@ pub fn prepared_sums_at<const W: usize>(
     reduce_prepared(wide_sums(low, high))
 }
 
-// The least residues at four places from `k` on. The compiler makes one load of them.
+/// The least residues at four places from `k` on. The compiler makes one load of them.
 #[inline(always)]
 fn words_at<const W: usize>(elements: &[BabyBear<W>], k: usize) -> Simd<u32, 4>
     requires { k + 3 < length elements.now }
@@ -191,4 +193,22 @@ fn words_at<const W: usize>(elements: &[BabyBear<W>], k: usize) -> Simd<u32, 4>
         elements[k + 2].value,
         elements[k + 3].value,
     ])
+}
+
+/// Writes the elements with these least residues to four places from `k` on. The compiler makes one
+/// store of them.
+#[inline(always)]
+pub fn put<const W: usize>(out: &mut [BabyBear<W>], k: usize, residues: Simd<u32, 4>)
+    requires room { k + 3 < length out.old }
+    requires least { (j : ℕ) → j < 4 → slice_index residues j < MODULUS }
+    ensures long { length out.new ≡ length out.old }
+    ensures written { (j : ℕ) → j < 4 → residue_at out.new (k + j) ≡ slice_index residues j }
+    ensures before { (i : ℕ) → i < k → slice_index_or out.new i (reduced 0) ≡ slice_index_or out.old i (reduced 0) }
+    ensures after { (i : ℕ) → k + 3 < i → slice_index_or out.new i (reduced 0) ≡ slice_index_or out.old i (reduced 0) }
+{
+    let words = residues.to_array();
+    out[k] = BabyBear { value: words[0] };
+    out[k + 1] = BabyBear { value: words[1] };
+    out[k + 2] = BabyBear { value: words[2] };
+    out[k + 3] = BabyBear { value: words[3] };
 }

@@ -6,7 +6,8 @@ ghost use Rattle.mlu_lanes.specs.LaneRing.{values_of, packed_of, lanes_are_lists
 use super::Lanes;
 use mlu_ring::{Additive, PackedValue};
 
-/// Says that `W` is a power of two. Implemented for the lanes of 1, 2, 4, 8 and 16 elements.
+/// Says that `W` is a power of two below 32, so that a vector of `W` words fits memory. Implemented
+/// for the lanes of 1, 2, 4, 8 and 16 elements.
 pub trait LaneWidth<const W: usize> {
     /// The logarithm of the width.
     const LOG_WIDTH: usize;
@@ -15,7 +16,6 @@ pub trait LaneWidth<const W: usize> {
 
     ghost width_is: { W ≡ 2 ^ LOG_WIDTH };
 
-    // So that a vector of as many words fits memory.
     ghost width_is_small: { W < 32 };
 }
 

@@ -157,7 +157,8 @@ impl<F: PrimeCharacteristicRing, const W: usize> Lanes<F, W> {
     ghost use Rattle.std.specs.Prelude.{◌∷◌, []};
     ghost use Rattle.mlu_ring.specs.Tables.{pair};
 
-    /// The sum of the products of four packed values with an element each, which stands in every lane.
+    /// The sum of the products of four packed values with an element each, which stands in every
+    /// lane.
     #[inline(always)]
     pub fn row_times_column(row: &(Self, Self, Self, Self), column: &(F, F, F, F)) -> Self
         ensures { result ≡ pair (lane_ring W F.ring) (row.now.0 ∷ row.now.1 ∷ row.now.2 ∷ row.now.3 ∷ [])

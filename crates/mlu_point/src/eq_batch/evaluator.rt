@@ -1,7 +1,7 @@
 //! How shares of scalars are multiplied by a coordinate of their point.
 ghost use Rattle.std.specs.Prelude.{◌≡◌, replicate};
 
-use crate::evaluator::EqualityEvaluator;
+use crate::evaluator::{EmbeddedCoordinates, EqualityEvaluator};
 use mlu_ring::{
     Additive, Algebra, ExtensionField, Field, PackedFieldExtension, PackedValue,
     PrimeCharacteristicRing,
@@ -15,6 +15,7 @@ pub(super) trait PackedEvaluator<F: Field, C: Additive, EF: ExtensionField<F>>: 
 > {
     ghost packed_image: { C → EF.ExtensionPacking };
 
+    /// The product of each lane and the coordinate's image.
     fn multiply_packed(share: EF::ExtensionPacking, coordinate: C) -> EF::ExtensionPacking
         ensures { result ≡ EF.ExtensionPacking.ring.product share (packed_image coordinate) };
 
@@ -45,18 +46,7 @@ impl<F: Field, EF: ExtensionField<F>> PackedEvaluator<F, EF, EF> for ExtFieldEva
 }
 
 /// Points with coordinates in its base field.
-pub(super) struct BaseFieldEvaluator;
-
-impl<F: Field, EF: ExtensionField<F>> EqualityEvaluator<F, EF> for BaseFieldEvaluator {
-    ghost image = { EF.embed };
-
-    #[inline]
-    fn multiply(share: EF, coordinate: F) -> EF {
-        share.scale(coordinate)
-    }
-}
-
-impl<F: Field, EF: ExtensionField<F>> PackedEvaluator<F, F, EF> for BaseFieldEvaluator {
+impl<F: Field, EF: ExtensionField<F>> PackedEvaluator<F, F, EF> for EmbeddedCoordinates {
     ghost use Rattle.mlu_ring.specs.Lanes.{splat_of};
     ghost use Rattle.mlu_point.specs.Splats.{lanes-of_splat};
 

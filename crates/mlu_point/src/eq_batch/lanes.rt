@@ -13,11 +13,11 @@ use mlu_ring::{
     RowMajorMatrixView,
 };
 
-/// The batch of points with at least as many variables as a packing has lanes in powers of two.
-/// The last of them become the lanes of a packed share for each point, and the others split these
-/// shares.
+/// The batch of points with `log2(W)` variables or more. The last `log2(W)` become the lanes of a
+/// packed share for each point, and the others split these shares.
 ///
-/// `packed` has a place for each point and each coordinate that is no lane's.
+/// Asks for `W` places in `lanes`, and in `packed` for one a point and one more for each of its
+/// other coordinates.
 pub(super) fn add_chunk<
     F: Field,
     EF: ExtensionField<F>,

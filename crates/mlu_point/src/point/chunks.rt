@@ -23,7 +23,7 @@ fn split_high<R>(coords: &[R], order: BitOrder, low_variables: usize) -> (&[R], 
     }
 }
 
-/// So many zeros, in one growth of exactly as many.
+/// `len` zeros, in one allocation of exactly that many elements.
 fn zeros<F: Additive>(alloc: Global, len: usize) -> Result<Vec<F>, AllocError>
     ensures zeros { IfOk result (λ zeros. zeros.items ≡ replicate len F.ring.zero) }
     ensures exact { IfOk result (λ zeros. vec_capacity zeros ≡ len) }
@@ -35,8 +35,8 @@ fn zeros<F: Additive>(alloc: Global, len: usize) -> Result<Vec<F>, AllocError>
     Ok(zeros)
 }
 
-/// The scale times each weight, in the order and in one growth of exactly `2^n` elements. Asks that
-/// `2^n` fits `usize`.
+/// The scale times each weight, in the order and in one allocation of exactly `2^n` elements. Asks
+/// that `2^n` fits `usize`.
 fn scaled_weights<F: Lanewise, M: Meter<F>>(
     alloc: Global,
     coords: &[F],
@@ -74,8 +74,9 @@ fn fill_chunks<F: Lanewise, M: Meter<F>>(
     }
 }
 
-/// Writes the scale times each weight, in the order, a chunk for each weight of the high coordinates.
-/// Those weights are the only memory: it does not fail where there is no such coordinate.
+/// Writes the scale times each weight, in the order, a chunk for each weight of the high
+/// coordinates. Those weights are the only memory: it does not fail where there is no such
+/// coordinate.
 pub(super) fn fill_in_chunks<F: Lanewise, M: Meter<F>>(
     alloc: Global,
     out: &mut [F],
@@ -103,7 +104,7 @@ pub(super) fn fill_in_chunks<F: Lanewise, M: Meter<F>>(
     Ok(())
 }
 
-/// The weights of all vertices, in the order and in one growth of exactly `2^n` elements, by
+/// The weights of all vertices, in the order and in one allocation of exactly `2^n` elements, by
 /// [`fill_in_chunks`]. Asks that `2^n` fits `usize`.
 pub(super) fn weights_by_meter<F: Lanewise, M: Meter<F>>(
     alloc: Global,
@@ -125,8 +126,8 @@ pub(super) fn weights_by_meter<F: Lanewise, M: Meter<F>>(
     Ok(table)
 }
 
-/// The weights of all vertices, in the order, by [`weights_by_meter`] in one chunk. Asks that `2^n` fits
-/// `usize`.
+/// The weights of all vertices, in the order, by [`weights_by_meter`] in one chunk. Asks that `2^n`
+/// fits `usize`.
 pub(super) fn equality_table<F: Field>(
     alloc: Global,
     coords: &[F],

@@ -19,7 +19,7 @@ impl<F: Field> Point<F> {
     /// are zero. Asks that `value < 2^n` where `n < 64`.
     ///
     /// # Errors
-    /// Where memory is refused. The vertex of no variables does not fail.
+    /// Where memory is refused; never where `n` is 0.
     pub fn hypercube(alloc: Global, value: usize, n: usize) -> Result<Self, AllocError>
         requires { n < 64 → value < 2 ^ n }
         ensures point { IfOk result (λ point. point ≡ vertex F.ring n value) }
@@ -28,16 +28,16 @@ impl<F: Field> Point<F> {
         let mut coords = Vec::with_capacity(alloc, n)?;
         for i in 0..n {
             let bit = bit_at(value, n - 1 - i);
-            coords.push(F::from_bool(bit == 1))?;
+            coords.push_reserved(F::from_bool(bit == 1));
         }
         Ok(Point::new(coords))
     }
 
     /// The point `(y^(2^(n-1)), .., y^2, y)`, at which a table has the value at `y` of the
-    /// polynomial with its entries as coefficients. The point of no variables does not fail.
+    /// polynomial with its entries as coefficients.
     ///
     /// # Errors
-    /// Where memory is refused.
+    /// Where memory is refused; never where `n` is 0.
     pub fn expand_from_univariate(alloc: Global, y: F, n: usize) -> Result<Self, AllocError>
         ensures point { IfOk result (λ point. point ≡ powers F.ring y n) }
         ensures none { n ≡ 0 → IsOk result }
@@ -59,7 +59,8 @@ impl<F: Field> Point<F> {
         product
     }
 
-    /// The value at the point of the images of `1, var, var^2, ..`, the first `2^n` powers of `var`.
+    /// The value at the point of the images of `1, var, var^2, ..`, the first `2^n` powers of
+    /// `var`.
     pub fn eval_select<EF: ExtensionField<F>>(var: F, point: &[EF]) -> EF
         ensures { result ≡ value EF.ring (map EF.embed (powers_below F.ring var (2 ^ length point.now))) point.now }
     {
@@ -73,12 +74,12 @@ impl<F: Field> Point<F> {
         product
     }
 
-    /// What `row` weighs of the successors of the rows that `point` weighs, in three parts: the
-    /// step that leaves the first coordinate, since every bit goes from 1 to 0; the steps to the
-    /// next row; and that of the last row, which is its own successor. Asks for equal lengths.
+    /// The value at `row` of the weights at `point`, each moved to the next vertex, in three parts:
+    /// carry, the step out of the last vertex, where every bit goes from 1 to 0; done, the steps
+    /// between vertices; last, the last vertex as its own successor. Asks for equal lengths.
     ///
-    /// The last two add up to the whole. The first is for a caller who goes on at coordinates in
-    /// front of these.
+    /// Done and last add up to the whole under [`Successor::RepeatLast`], done and carry under
+    /// [`Successor::Wrap`]. A caller with coordinates in front of these goes on from carry.
     pub fn eval_next(point: &[F], row: &[F]) -> (F, F, F)
         requires { length point.now ≡ length row.now }
         ensures carry { result.0 ≡ carry_of F.ring point.now row.now }
@@ -103,8 +104,8 @@ impl<F: Field> Point<F> {
         (carry, done, last)
     }
 
-    /// What `row` weighs of the successors, by the rule, of the rows that `point` weighs. Asks for
-    /// equal lengths.
+    /// The value at `row` of the weights at `point`, each moved to the successor by the rule. Asks
+    /// for equal lengths.
     pub fn eval_next_by(rule: Successor, point: &[F], row: &[F]) -> F
         requires { length point.now ≡ length row.now }
         ensures { result ≡ value F.ring (next_by rule F.ring (weights F.ring point.now)) row.now }
@@ -120,8 +121,8 @@ impl<F: Field> Point<F> {
     /// where `rev_order`. Asks for one point or more, of equal lengths.
     ///
     /// # Errors
-    /// Where memory is refused, or the number of values does not fit `usize`. Points of no coordinates
-    /// do not fail.
+    /// Where memory is refused, or the number of values does not fit `usize`; never where the
+    /// points have no coordinates.
     pub fn transpose(
         alloc: Global,
         points: &[Self],

@@ -57,7 +57,7 @@ impl<F: Copy> Point<F> {
     /// An equal point.
     ///
     /// # Errors
-    /// Where memory is refused. An empty point does not fail.
+    /// Where memory is refused; never where the point is empty.
     pub fn try_clone(&self, alloc: Global) -> Result<Self, AllocError>
         ensures point { IfOk result (λ point. point ≡ self.now) }
         ensures none { length self.now ≡ 0 → IsOk result }
@@ -101,7 +101,7 @@ impl<F: Copy> Point<F> {
     /// Appends the coordinates of `other`.
     ///
     /// # Errors
-    /// Where memory is refused; the point is as before then. None to append does not fail.
+    /// Where memory is refused, and the point is as before then; never where `other` is empty.
     pub fn extend(&mut self, other: PointView<'_, F>) -> Result<(), AllocError>
         ensures point { self.new ≡ (if is_ok result then self.old ++ coordinates other.entry else self.old) }
         ensures none { length (coordinates other.entry) ≡ 0 → IsOk result }
@@ -230,18 +230,18 @@ impl<F: Field> Point<F> {
 }
 
 impl<F: Sample + Copy + Drop> Point<F> {
-    /// A point of `n` drawn coordinates. Which ones come, and where the generator then stands, is not
-    /// promised.
+    /// A point of `n` drawn coordinates. Which ones come, and where the generator then stands, is
+    /// not promised.
     ///
     /// # Errors
-    /// Where memory is refused. None to draw does not fail.
+    /// Where memory is refused; never where `n` is 0.
     pub fn rand<R: RngExt>(alloc: Global, rng: &mut R, n: usize) -> Result<Self, AllocError>
         ensures size { IfOk result (λ point. length point ≡ n) }
         ensures none { n ≡ 0 → IsOk result }
     {
         let mut coords = Vec::with_capacity(alloc, n)?;
         for _ in 0..n {
-            coords.push(F::sample(rng))?;
+            coords.push_reserved(F::sample(rng));
         }
         Ok(Point::new(coords))
     }

@@ -64,6 +64,7 @@ pub fn fill_embedded_equality_table<B: Additive, R: Algebra<B>>(
     fill_table::<B, R, EmbeddedCoordinates>(out, coords, order, scale)
 }
 
+/// [`fill_equality_table`], at the images of the coordinates by the evaluator `E`.
 fn fill_table<C: Copy, R: PrimeCharacteristicRing, E: EqualityEvaluator<C, R>>(
     out: &mut [R],
     coords: &[C],
@@ -111,7 +112,7 @@ fn share_at<R: PrimeCharacteristicRing>(coordinate: R, bit: usize) -> R
     }
 }
 
-/// Whether a cube of `n` variables has the vertex. One of 64 or more has every `usize`.
+/// Whether `vertex < 2^n`, which holds of every `usize` from `n = 64` on.
 fn is_vertex(vertex: usize, n: usize) -> bool
     ensures { IsTrue result ↔ vertex < 2 ^ n }
 {

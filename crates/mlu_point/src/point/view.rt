@@ -100,7 +100,7 @@ impl<'a, F: Copy> PointView<'a, F> {
     /// coordinates.
     ///
     /// # Errors
-    /// Where memory is refused. An empty range does not fail.
+    /// Where memory is refused; never where the range is empty.
     pub fn get_subpoint_over_range(
         &self,
         alloc: Global,
@@ -117,7 +117,7 @@ impl<'a, F: Copy> PointView<'a, F> {
     /// The point with the coordinates from last to first.
     ///
     /// # Errors
-    /// Where memory is refused. An empty point does not fail.
+    /// Where memory is refused; never where the point is empty.
     pub fn reversed(&self, alloc: Global) -> Result<Point<F>, AllocError>
         ensures point { IfOk result (λ point. point ≡ reverse (coordinates self.now)) }
         ensures none { length (coordinates self.now) ≡ 0 → IsOk result }
@@ -125,11 +125,11 @@ impl<'a, F: Copy> PointView<'a, F> {
         Ok(Point::new(reversed(alloc, self.coords)?))
     }
 
-    /// The points of the first `pos` coordinates and of the others. Asks that `pos <= n`, where there
-    /// are `n` coordinates.
+    /// The points of the first `pos` coordinates and of the others. Asks that `pos <= n`, where
+    /// there are `n` coordinates.
     ///
     /// # Errors
-    /// Where memory is refused. An empty point does not fail.
+    /// Where memory is refused; never where the point is empty.
     pub fn split_at(&self, alloc: Global, pos: usize) -> Result<(Point<F>, Point<F>), AllocError>
         requires { pos ≤ length (coordinates self.now) }
         ensures first { IfOk result (λ halves. halves.0 ≡ take pos (coordinates self.now)) }
@@ -149,8 +149,8 @@ impl<F: Lanewise> PointView<'_, F> {
     ghost use Rattle.mlu_point.specs.Orders.{weights_by};
     ghost use Rattle.mlu_point.specs.Views.{coordinates};
 
-    /// Writes the scale times each weight, in the order, by `2^n - 1` products of the meter and none
-    /// else. Asks for `2^n` places, where there are `n` coordinates.
+    /// Writes the scale times each weight, in the order, by `2^n - 1` products of the meter and
+    /// none else. Asks for `2^n` places, where there are `n` coordinates.
     pub fn fill_equality_table_serial<M: Meter<F>>(
         &self,
         out: &mut [F],
@@ -166,16 +166,16 @@ impl<F: Lanewise> PointView<'_, F> {
         fill_by_meter(out, self.coords, order, scale, meter);
     }
 
-    /// Writes the scale times each weight, in the order, in chunks of `2^low_variables` entries. The
-    /// other coordinates are the high ones, the first for [`BitOrder::Msb`] and the last for
-    /// [`BitOrder::Lsb`]: each chunk begins with one of their weights. Takes `2^n - 1` products of the
-    /// meter and none else, where there are `n` coordinates.
+    /// Writes the scale times each weight, in the order, in chunks of `2^low_variables` entries.
+    /// The other coordinates are the high ones, the first for [`BitOrder::Msb`] and the last for
+    /// [`BitOrder::Lsb`]: each chunk begins with one of their weights. Takes `2^n - 1` products of
+    /// the meter and none else, where there are `n` coordinates.
     ///
     /// Asks for `2^n` places, and that `low_variables <= n`.
     ///
     /// # Errors
     /// Where memory for the weights of the high coordinates is refused; nothing is written or
-    /// multiplied then. Does not fail where `low_variables` is `n`.
+    /// multiplied then. Never where `low_variables` is `n`.
     pub fn fill_equality_table_in_chunks<M: Meter<F>>(
         &self,
         alloc: Global,
@@ -196,13 +196,13 @@ impl<F: Lanewise> PointView<'_, F> {
         fill_in_chunks(alloc, out, self.coords, order, scale, low_variables, meter)
     }
 
-    /// The weights of all vertices, in the order, as [`PointView::fill_equality_table_in_chunks`] makes
-    /// them: by `2^n - 1` products of the meter and none else. Asks that `2^n` fits `usize`, where there
-    /// are `n` coordinates, and that `low_variables <= n`.
+    /// The weights of all vertices, in the order, as [`PointView::fill_equality_table_in_chunks`]
+    /// makes them: by `2^n - 1` products of the meter and none else. Asks that `2^n` fits `usize`,
+    /// where there are `n` coordinates, and that `low_variables <= n`.
     ///
     /// # Errors
-    /// Where the growth of exactly `2^n` elements or the memory of the chunks is refused; nothing is
-    /// multiplied then.
+    /// Where the allocation of exactly `2^n` elements or the memory of the chunks is refused;
+    /// nothing is multiplied then.
     pub fn equality_weights_metered<M: Meter<F>>(
         &self,
         alloc: Global,
@@ -232,7 +232,7 @@ impl<F: Field> PointView<'_, F> {
     /// `2^n` fits `usize`.
     ///
     /// # Errors
-    /// Where the one growth of exactly `2^n` elements is refused.
+    /// Where the one allocation of exactly `2^n` elements is refused.
     pub fn equality_weights_msb(&self, alloc: Global) -> Result<Vec<F>, AllocError>
         requires { 2 ^ length (coordinates self.now) < 2 ^ 64 }
         ensures table { IfOk result (λ table. table.items ≡ weights F.ring (coordinates self.now)) }
@@ -245,7 +245,7 @@ impl<F: Field> PointView<'_, F> {
     /// the lowest bit. Asks that `2^n` fits `usize`.
     ///
     /// # Errors
-    /// Where the one growth of exactly `2^n` elements is refused.
+    /// Where the one allocation of exactly `2^n` elements is refused.
     pub fn equality_weights_lsb(&self, alloc: Global) -> Result<Vec<F>, AllocError>
         requires { 2 ^ length (coordinates self.now) < 2 ^ 64 }
         ensures table { IfOk result (λ table. table.items ≡ lsb F.ring (coordinates self.now)) }

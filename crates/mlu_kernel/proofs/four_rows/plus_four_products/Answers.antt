@@ -3,7 +3,7 @@ use Rattle.mlu_ring.specs.Lanes.{splat_of}
 use Rattle.mlu_ring.specs.Tables.{pair}
 use Rattle.mlu_ring.proofs.Tabulated.{length-tabulate, get_or-tabulate}
 use Rattle.mlu_ring.proofs.Zips.{zip_step, zip_whole}
-use Rattle.mlu_kernel.proofs.PackedCoefficients.{IsPackedExtension}
+use Rattle.mlu_kernel.proofs.PackedCoefficients.{packed_extension}
 use Rattle.mlu_kernel.proofs.FourRows.{products_of, map-four, plus_rows-products}
 use Rattle.mlu_kernel.proofs.four_rows.plus_four_products.Goals as goal
 
@@ -39,23 +39,9 @@ returns g c =
     let ext = g.EF.ExtensionPacking.PackedFieldExtension in
     let met = g.met.EF.ExtensionPacking.PackedFieldExtension in
     let base = g.F.Packing.PackedValue in
-    let laws : IsPackedExtension g.F.Additive.ring g.EF.Additive.ring g.F.Packing.Additive.ring g.EF.ExtensionPacking.Additive.ring g.F.Packing.PackedValue.WIDTH g.EF.ExtensionField.DIMENSION
-    g.F.Packing.PackedValue.lanes g.F.Packing.PackedValue.of_lanes g.EF.ExtensionField.coefficients g.EF.ExtensionPacking.PackedFieldExtension.ext_lanes g.EF.ExtensionPacking.PackedFieldExtension.of_ext_lanes
-    g.EF.ExtensionPacking.PackedFieldExtension.packed_coefficients g.EF.ExtensionPacking.PackedFieldExtension.of_packed_coefficients g.EF.Algebra.embed g.EF.ExtensionPacking.Algebra-2.embed = record {
-      ext_laws = g.met.EF.Additive.laws;
-      packing_laws = g.met.F.Packing.Additive.laws;
-      packed_laws = g.met.EF.ExtensionPacking.Additive.laws;
-      lanes_are = g.met.F.Packing.PackedValue.lanes_are;
-      lane_by_lane = g.met.F.Lanewise.lane_by_lane;
-      length-coefficients = g.met.EF.ExtensionField.coefficients_are.length-parts;
-      coefficients_sum = g.met.EF.ExtensionField.coefficients_sum;
-      coefficients_scale = g.met.EF.ExtensionField.coefficients_scale;
-      ext_lanes_are = met.lanes_are;
-      ext_lane_by_lane = met.lane_by_lane;
-      embeds_packing = met.embeds_packing;
-      packed_coefficients_are = met.coefficients_are;
-      transposed = met.transposed;
-    } in
+    let laws = packed_extension g.met.F.Packing.PackedValue.lanes_are g.met.F.Lanewise.lane_by_lane g.met.F.Packing.Additive.laws
+    g.met.EF.Additive.laws g.met.EF.ExtensionField.coefficients_are g.met.EF.ExtensionField.coefficients_sum g.met.EF.ExtensionField.coefficients_scale
+    g.met.EF.ExtensionPacking.Additive.laws met.lanes_are met.lane_by_lane met.embeds_packing met.coefficients_are met.transposed in
     let ws = c.args.weights.now in
     let bs = c.args.blocks.now in
     let old = ext.packed_coefficients c.args.packed in

@@ -1,5 +1,5 @@
 use Rattle.std.proofs.Common.{◌≢◌, ◌<◌, ◌∙◌, length, get_or, ap, sym, arith, below_more, get_or-set_other, get_or-set_same}
-use Rattle.mlu_kernel.proofs.PackedCoefficients.{IsPackedExtension, by_coefficients, coefficient-scale}
+use Rattle.mlu_kernel.proofs.PackedCoefficients.{packed_extension, by_coefficients, coefficient-scale}
 use Rattle.mlu_kernel.proofs.one_row.scale_by_packing.Goals as goal
 
 pub loop-k-preserved : goal.loop-k-preserved
@@ -25,22 +25,8 @@ returns g c =
     let packed = g.EF.ExtensionPacking.Additive.ring in
     let met = g.met.EF.ExtensionPacking.PackedFieldExtension in
     let embed = g.EF.ExtensionPacking.Algebra-2.embed in
-    let laws : IsPackedExtension g.F.Additive.ring g.EF.Additive.ring packing packed g.F.Packing.PackedValue.WIDTH g.EF.ExtensionField.DIMENSION
-    g.F.Packing.PackedValue.lanes g.F.Packing.PackedValue.of_lanes g.EF.ExtensionField.coefficients g.EF.ExtensionPacking.PackedFieldExtension.ext_lanes g.EF.ExtensionPacking.PackedFieldExtension.of_ext_lanes
-    g.EF.ExtensionPacking.PackedFieldExtension.packed_coefficients g.EF.ExtensionPacking.PackedFieldExtension.of_packed_coefficients g.EF.Algebra.embed embed = record {
-      ext_laws = g.met.EF.Additive.laws;
-      packing_laws = g.met.F.Packing.Additive.laws;
-      packed_laws = g.met.EF.ExtensionPacking.Additive.laws;
-      lanes_are = g.met.F.Packing.PackedValue.lanes_are;
-      lane_by_lane = g.met.F.Lanewise.lane_by_lane;
-      length-coefficients = g.met.EF.ExtensionField.coefficients_are.length-parts;
-      coefficients_sum = g.met.EF.ExtensionField.coefficients_sum;
-      coefficients_scale = g.met.EF.ExtensionField.coefficients_scale;
-      ext_lanes_are = met.lanes_are;
-      ext_lane_by_lane = met.lane_by_lane;
-      embeds_packing = met.embeds_packing;
-      packed_coefficients_are = met.coefficients_are;
-      transposed = met.transposed;
-    } in
+    let laws = packed_extension g.met.F.Packing.PackedValue.lanes_are g.met.F.Lanewise.lane_by_lane g.met.F.Packing.Additive.laws
+    g.met.EF.Additive.laws g.met.EF.ExtensionField.coefficients_are g.met.EF.ExtensionField.coefficients_sum g.met.EF.ExtensionField.coefficients_scale
+    g.met.EF.ExtensionPacking.Additive.laws met.lanes_are met.lane_by_lane met.embeds_packing met.coefficients_are met.transposed in
     by_coefficients laws c.loop-k.scaled (packed.product c.args.packed (embed c.args.factor)) (λ j h.
     c.loop-k.invariant j (omega (arith, c.DIMENSION-k-end.ensures)) ∙ sym (coefficient-scale laws c.args.packed c.args.factor j h))

@@ -7,7 +7,8 @@ use Rattle.mlu_point.proofs.eq_batch.evaluate.Goals as goal
 pub returns-then-not-this-clause-left : goal.returns-then-not-this-clause-left
 returns-then-not-this-clause-left g c =
     let none : length c.args.scalars.now ≡ 0 = first_of (search rules, grind (arith, common_steps)) in
-    batch-cleared g.EF.Additive.ring g.met.EF.Additive.laws g.row.INITIALIZED (map g.E.EqualityEvaluator.image c.args.evals.values.now) c.args.scalars.now c.args.out.now c.clear.new.out c.if-not-this.true none c.clear.auto.out c.clear.ensures
+    c.clear.ensures
+    ∙ batch-cleared g.EF.Additive.ring g.met.EF.Additive.laws g.row.INITIALIZED (map g.E.EqualityEvaluator.image c.args.evals.values.now) c.args.scalars.now c.args.out.now c.if-not-this.true none
 
 pub returns-else-not-this-clause-left : goal.returns-else-not-this-clause-left
 returns-else-not-this-clause-left g c =

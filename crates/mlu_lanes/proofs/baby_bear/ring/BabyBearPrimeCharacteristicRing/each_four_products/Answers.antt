@@ -1,5 +1,5 @@
 -- Four places more are written.
-use Rattle.std.proofs.Common.{◌≡◌, ◌+◌, ◌*◌, ◌<◌, length, length-set, ap, ◌∙◌, lit<, arith}
+use Rattle.std.proofs.Common.{◌≡◌, ◌+◌, ◌*◌, ◌∙◌, arith}
 use Rattle.mlu_ring.proofs.Filled.{filled_by_four}
 use Rattle.mlu_lanes.specs.BabyBear.{reduced}
 use Rattle.mlu_lanes.proofs.PlaceSums.{sum_at, sum_at_reduced}
@@ -12,14 +12,9 @@ loop-g-preserved g c =
     let n = 4 * c.loop-g.g in
     let sum = sum_at l.0.now l.1.now l.2.now l.3.now r.0.now r.1.now r.2.now r.3.now in
     let reduced_at = sum_at_reduced l.0.now l.1.now l.2.now l.3.now r.0.now r.1.now r.2.now r.3.now in
-    let first : n + 0 ≡ n = omega arith in
-    let next : 4 * (c.loop-g.g + 1) ≡ 4 * c.loop-g.g + 4 = omega arith in
-    let room : 4 * c.loop-g.g + 3 < length c.loop-g.out = omega (arith, c.loop-g.invariant.long, c.loop-g-test.true) in
+    let next : 4 * (c.loop-g.g + 1) ≡ n + 4 = omega arith in
     record {
-      long = rw (length-set, length-set, length-set, length-set) c.loop-g.invariant.long;
-      filled = filled_by_four (reduced 0) c.loop-g.out sum n (4 * (c.loop-g.g + 1)) _ _ _ _ next room c.loop-g.invariant.filled
-          (reduced_at (n + 0) _ (c.sums_at.ensures 0 (lit< tt)) ∙ ap sum first)
-          (reduced_at (n + 1) _ (c.sums_at.ensures 1 (lit< tt)))
-          (reduced_at (n + 2) _ (c.sums_at.ensures 2 (lit< tt)))
-          (reduced_at (n + 3) _ (c.sums_at.ensures 3 (lit< tt)));
+      long = c.put.ensures.long ∙ c.loop-g.invariant.long;
+      filled = filled_by_four (reduced 0) c.loop-g.out c.put.new.out sum n (4 * (c.loop-g.g + 1)) next c.loop-g.invariant.filled c.put.ensures.before
+          (λ j h. reduced_at (n + j) _ (c.put.ensures.written j h ∙ c.sums_at-sums.ensures j h));
     }
