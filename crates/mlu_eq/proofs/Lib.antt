@@ -7,9 +7,11 @@ pub mod Folds
 pub mod Groups
 pub mod Halves
 pub mod Lengths
+pub mod Lines
 pub mod Moved
 pub mod Products
 pub mod RowsMapped
+pub mod RowsShifted
 pub mod Runs
 pub mod Shifted
 pub mod Zipped

@@ -98,10 +98,10 @@ impl<F: Field, EF: ExtensionField<F>> EqMaybePacked<F, EF> {
         matches!(self.weights, Stored::Packed(_))
     }
 
-    /// A copy, in one growth of its size.
+    /// A copy, in one allocation of its size.
     ///
     /// # Errors
-    /// Where the growth is refused.
+    /// Where memory is refused.
     pub fn try_clone(&self, alloc: Global) -> Result<Self, AllocError>
         ensures { IfOk result (λ copy. copy ≡ self.now) }
     {
@@ -183,10 +183,10 @@ pub fn to_field<F: Field, EF: ExtensionField<F>, R: ExtensionField<R> + MapFrom<
     }
 }
 
-/// The images of the elements, in order and in one growth of exactly as many. None at all do not fail.
+/// The images of the elements, in order and in one allocation of exactly as many.
 ///
 /// # Errors
-/// Where the growth is refused.
+/// Where memory is refused; never where there are none.
 pub fn images<E: Additive, R: MapFrom<E>>(
     alloc: Global,
     elements: &[E],

@@ -11,8 +11,6 @@
 //!
 //! The calls over slices are stated by the definitions of `mlu_ring` alone: the value, `front` and
 //! `back`. Nothing takes memory but the calls that are handed an allocator.
-//!
-//! Stands on `mlu_ring` and `mlu_kernel`; the polynomials stand on this crate.
 #![tactic(auto)]
 
 mod evaluation;

@@ -1,7 +1,8 @@
 //! Two entries of a table joined in one, with one product.
 //!
 //! The calls on the line through two values differ in what is embedded: nothing, the values, or
-//! `r`. Where one factor is a base element, so is the product's cost.
+//! `r`. Where one factor is a base element, the product costs one product of the base for each
+//! coefficient.
 ghost use Rattle.std.specs.Prelude.{◌≡◌};
 ghost use Rattle.mlu_eq.specs.Combine.{combined, interpolated};
 

@@ -18,7 +18,7 @@ use std::alloc::{AllocError, Global};
 /// are the two halves.
 ///
 /// # Errors
-/// Where the memory for half a table is refused. Fewer than two entries do not fail.
+/// Where the memory for half a table is refused; never where there are fewer than two entries.
 pub fn fold_prefix<F: Additive, EF: Algebra<F>>(
     alloc: Global,
     entries: &[F],
@@ -50,7 +50,7 @@ pub fn fold_prefix_at<F: Additive, EF: Algebra<F>>(entries: &[F], r: EF, index: 
 /// Asks for a whole number of packings in half a table: `W` divides `length / 2`.
 ///
 /// # Errors
-/// Where the memory for half a table is refused. Fewer than two entries do not fail.
+/// Where the memory for half a table is refused; never where there are fewer than two entries.
 pub fn fold_prefix_to_packed<F: Field, EF: ExtensionField<F>>(
     alloc: Global,
     entries: &[F],

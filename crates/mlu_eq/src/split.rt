@@ -1,7 +1,8 @@
 //! A table in two halves: `eq0`, a slice, and `eq1`, scalar or packed weights.
 //!
-//! The kernels never form the whole table: its entry `x` is `eq0[x / n] * w[x % n]`, where `w` are
-//! the `n` weights of `eq1`. None of them takes memory.
+//! Entry `x` of the table is `eq0[x / n] * w[x % n]`, where `w` are the `n` weights of `eq1`. None of the
+//! kernels takes memory: only the suffix compressions write the whole table, on the stack, where it
+//! has at most 128 packed entries.
 
 pub(crate) mod accumulate;
 mod dot;

@@ -11,7 +11,7 @@ use std::alloc::{AllocError, Global};
 /// The table folded at `r`: entry `i` is `e[2i] + r * (e[2i + 1] - e[2i])`.
 ///
 /// # Errors
-/// Where the memory for half a table is refused. Fewer than two entries do not fail.
+/// Where the memory for half a table is refused; never where there are fewer than two entries.
 pub fn fold_suffix<F: Additive, EF: Algebra<F>>(
     alloc: Global,
     entries: &[F],

@@ -41,10 +41,10 @@ impl<T: Copy> Table<T> {
         self.values.as_slice()
     }
 
-    /// A copy, in one growth of its size.
+    /// A copy, in one allocation of its size.
     ///
     /// # Errors
-    /// Where the growth is refused.
+    /// Where memory is refused.
     pub(super) fn try_clone(&self, alloc: Global) -> Result<Self, AllocError>
         ensures { IfOk result (λ copy. copy ≡ self.now) }
     {

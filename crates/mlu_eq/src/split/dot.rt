@@ -17,6 +17,9 @@ use mlu_ring::{
 /// With fewer entries than these it does not pay to split the packed weights into columns.
 const FEW_ENTRIES: usize = 1024;
 
+/// The products that are summed before they are reduced.
+const GROUP: usize = 4;
+
 /// The sum of the base entries, each times its weight. Asks for as many entries as the split
 /// table has.
 pub fn dot_base<F: Field, EF: ExtensionField<F>>(
@@ -158,9 +161,6 @@ fn dot<R: PrimeCharacteristicRing>(weights: &[R], entries: &[R]) -> R
     }
     sum
 }
-
-/// The products that are summed before they are reduced.
-const GROUP: usize = 4;
 
 /// The packed weights times groups of entries: a value whose lanes add up to the dot.
 #[inline]

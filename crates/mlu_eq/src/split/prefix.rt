@@ -1,21 +1,90 @@
 //! The rows of a table, each times its weight in the split table, added to an output.
-ghost use Rattle.std.specs.Prelude.{◌≡◌, ◌∷◌, [], ◌*◌, length, map};
+//!
+//! Where the places of an output fill whole packings, the rows are added up in packed places on the
+//! stack, a group of lanes at a time, and the sums are unpacked once.
+ghost use Rattle.std.specs.Prelude.{◌≡◌, ◌∷◌, [], ◌*◌, ◌/◌, ◌≤◌, ◌<◌, length, map, IsTrue};
+ghost use Rattle.std.specs.Mem.{type_size};
 ghost use Rattle.mlu_ring.specs.Lanes.{logical};
 ghost use Rattle.mlu_kernel.specs.Kernels.{plus_rows};
 ghost use Rattle.mlu_eq.specs.Split.{contents};
 
+use super::accumulate::add_lanes;
 use crate::half::{EqMaybePacked, Weights};
 use mlu_kernel::compress_prefix_to_packed_packed;
 use mlu_kernel::one_row::add_row_times;
+use mlu_kernel::small::{SMALL_BYTES, is_small};
 use mlu_ring::{
-    Additive, Algebra, ExtensionField, Field, Lanewise, PackedFieldExtension, PackedValue, row_of,
+    Additive, Algebra, ExtensionField, Field, Lanewise, PackedFieldExtension, PackedValue,
+    PrimeCharacteristicRing, row_of,
 };
+
+/// The packed places that begin at zero for a short output.
+const FEW_PLACES: usize = 8;
+
+/// The same for most outputs.
+const MANY_PLACES: usize = 128;
+
+/// With more packed places than these an output is added to entry by entry.
+const MOST_PLACES: usize = 1024;
+
+const _: () = prove!(MOST_PLACES * SMALL_BYTES < 2 << 20);
 
 /// Adds a row of `entries` to `out` for each entry of the split table, times that entry. The
 /// rows are as long as `out`; `eq0` may be a run of a first half, with the rows of that run.
 ///
 /// Asks for as many rows as the split table has entries.
 pub fn compress_prefix_into<F: Field, EF: ExtensionField<F>>(
+    eq0: &[EF],
+    eq1: &EqMaybePacked<F, EF>,
+    out: &mut [EF],
+    entries: &[F],
+)
+    requires { length entries.now ≡ length eq0.now * (length eq1.now.weights * length out.old) }
+    ensures { out.new ≡ plus_rows EF.ring out.old (contents EF.ring eq0.now eq1.now.weights) (map EF.embed entries.now) }
+{
+    if fills_packings::<F, EF>(out.len(), FEW_PLACES) {
+        compress_prefix_in_packings::<F, EF, FEW_PLACES>(eq0, eq1, out, entries);
+    } else if fills_packings::<F, EF>(out.len(), MANY_PLACES) {
+        compress_prefix_in_packings::<F, EF, MANY_PLACES>(eq0, eq1, out, entries);
+    } else if fills_packings::<F, EF>(out.len(), MOST_PLACES) {
+        compress_prefix_in_packings::<F, EF, MOST_PLACES>(eq0, eq1, out, entries);
+    } else {
+        compress_prefix_by_rows(eq0, eq1, out, entries);
+    }
+}
+
+/// Whether so many places are at most `most` whole packings, which have room on the stack.
+#[inline]
+fn fills_packings<F: Field, EF: ExtensionField<F>>(places: usize, most: usize) -> bool
+    ensures { IsTrue result → (places ≡ places / F.Packing.WIDTH * F.Packing.WIDTH)
+        × (places / F.Packing.WIDTH ≤ most) × (type_size EF.ExtensionPacking.row < SMALL_BYTES) }
+{
+    let width = F::Packing::WIDTH;
+    places % width == 0 && places / width <= most && is_small(&EF::ExtensionPacking::ZERO)
+}
+
+/// [`compress_prefix_into`] by way of packed places, which begin at zero.
+fn compress_prefix_in_packings<F: Field, EF: ExtensionField<F>, const N: usize>(
+    eq0: &[EF],
+    eq1: &EqMaybePacked<F, EF>,
+    out: &mut [EF],
+    entries: &[F],
+)
+    requires most { N ≤ MOST_PLACES }
+    requires whole { length out.old ≡ length out.old / F.Packing.WIDTH * F.Packing.WIDTH }
+    requires few { length out.old / F.Packing.WIDTH ≤ N }
+    requires small { type_size EF.ExtensionPacking.row < SMALL_BYTES }
+    requires size { length entries.now ≡ length eq0.now * (length eq1.now.weights * length out.old) }
+    ensures { out.new ≡ plus_rows EF.ring out.old (contents EF.ring eq0.now eq1.now.weights) (map EF.embed entries.now) }
+{
+    let mut places = [EF::ExtensionPacking::ZERO; N];
+    let sums = &mut places[..out.len() / F::Packing::WIDTH];
+    compress_prefix_to_packed_into(eq0, eq1, sums, entries);
+    add_lanes::<F, EF>(out, sums, EF::ONE);
+}
+
+/// [`compress_prefix_into`] a row at a time.
+fn compress_prefix_by_rows<F: Field, EF: ExtensionField<F>>(
     eq0: &[EF],
     eq1: &EqMaybePacked<F, EF>,
     out: &mut [EF],

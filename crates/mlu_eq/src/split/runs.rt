@@ -12,6 +12,7 @@ ghost use Rattle.mlu_eq.specs.Split.{contents, row_weight, run_of};
 use super::prefix::{add_scalar_row, compress_prefix_into, compress_prefix_to_packed_into};
 use super::shifted::compress_prefix_shifted_into;
 use crate::half::EqMaybePacked;
+use mlu_ring::place_by_place::clear;
 use mlu_ring::{Additive, ExtensionField, Field, Lanewise, PackedValue, PrimeCharacteristicRing};
 
 /// A compression at the first variables, which can be done run by run: what a run of the first
@@ -197,15 +198,6 @@ pub fn compress_prefix_in_runs<
         let rows = rows_of_run(entries, eq0.len(), start, run);
         P::add_run(eq0, eq1, start, run, accumulator, rows);
         T::add_each(out, accumulator);
-    }
-}
-
-/// Zero in each place.
-fn clear<T: Additive>(out: &mut [T])
-    ensures { out.new ≡ map (λ x. T.ring.zero) out.old }
-{
-    for place in out.iter_mut() {
-        *place = T::ZERO;
     }
 }
 

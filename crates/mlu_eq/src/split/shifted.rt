@@ -3,17 +3,21 @@
 //!
 //! Row `j` of the table, with `n` weights, so meets the places from `j * n + 1` on: whole rows go
 //! through the plain kernels, across the borders of the rows. The last row is cut by one place.
-ghost use Rattle.std.specs.Prelude.{◌≡◌, ◌<◌, ◌≤◌, ◌+◌, ◌-◌, ◌*◌, length, map, take};
+ghost use Rattle.std.specs.Prelude.{◌≡◌, ℕ, ◌<◌, ◌≤◌, ◌+◌, ◌-◌, ◌*◌, length, map, take, slice_index_or};
+ghost use Rattle.std.specs.Mem.{type_size};
 ghost use Rattle.mlu_ring.specs.Lanes.{logical};
 ghost use Rattle.mlu_ring.specs.Tables.{back, pair};
 ghost use Rattle.mlu_ring.specs.Successor.{shifted};
 ghost use Rattle.mlu_kernel.specs.Kernels.{plus_rows};
+ghost use Rattle.mlu_kernel.specs.declared.small.TheConstants.{SMALL_BYTES};
 ghost use Rattle.mlu_eq.specs.Split.{contents};
 
 use super::dot::{base_dot, dot_base};
 use super::prefix::{add_lane_rows, add_scalar_row, add_scalar_rows, compress_prefix_into};
+use super::suffix::{MOST_JOINED, can_be_joined, join_halves};
 use crate::half::{EqMaybePacked, Weights};
 use mlu_kernel::one_row::{lane_sum, row_dot_in_lanes};
+use mlu_kernel::rows::row_dots;
 use mlu_ring::{
     Additive, Algebra, ExtensionField, Field, Lanewise, PackedFieldExtension, PackedValue, row_of,
 };
@@ -75,8 +79,75 @@ pub fn compress_suffix_shifted_into<F: Field, EF: ExtensionField<F>>(
     ensures { out.new ≡ back EF.ring (shifted EF.ring (contents EF.ring eq0.now eq1.now.weights)) (map EF.embed entries.now) }
 {
     eq1.is_not_empty();
+    if let Weights::Packed(weights) = eq1.weights() {
+        if can_be_joined::<F, EF>(eq0.len(), weights.len()) {
+            return compress_shifted_by_joined::<F, EF>(eq0, weights, out, entries);
+        }
+    }
     for y in 0..out.len() {
         out[y] = dot_base_shifted(eq0, eq1, row_of(entries, out.len(), y));
+    }
+}
+
+/// The same, with the products of both halves written once, for all rows.
+fn compress_shifted_by_joined<F: Field, EF: ExtensionField<F>>(
+    eq0: &[EF],
+    weights: &[EF::ExtensionPacking],
+    out: &mut [EF],
+    entries: &[F],
+)
+    requires some { 0 < length eq0.now * (length weights.now * F.Packing.WIDTH) }
+    requires few { length eq0.now * length weights.now ≤ MOST_JOINED }
+    requires small { type_size EF.ExtensionPacking.row < SMALL_BYTES }
+    requires size { length entries.now ≡ length out.old * (length eq0.now * (length weights.now * F.Packing.WIDTH)) }
+    ensures { out.new ≡ back EF.ring (shifted EF.ring (contents EF.ring eq0.now (logical EF.ExtensionPacking.ext_lanes weights.now)))
+        (map EF.embed entries.now) }
+{
+    let mut places = [EF::ExtensionPacking::ZERO; MOST_JOINED];
+    let joined = &mut places[..eq0.len() * weights.len()];
+    join_halves::<F, EF>(eq0, joined, weights);
+    compress_shifted_by_packed::<F, EF>(joined, out, entries);
+}
+
+/// Writes the dot of the moved weights with each row.
+///
+/// All rows but the last are read on by a place, so that they meet whole packed weights. The last
+/// weight then meets the first entry of the next row, and their product is taken away again.
+fn compress_shifted_by_packed<F: Field, EF: ExtensionField<F>>(
+    weights: &[EF::ExtensionPacking],
+    out: &mut [EF],
+    entries: &[F],
+)
+    requires some { 0 < length weights.now }
+    requires size { length entries.now ≡ length out.old * (length weights.now * F.Packing.WIDTH) }
+    ensures { out.new ≡ back EF.ring (shifted EF.ring (logical EF.ExtensionPacking.ext_lanes weights.now)) (map EF.embed entries.now) }
+{
+    let Some((last, full)) = out.split_last_mut() else {
+        return;
+    };
+    let width = weights.len() * F::Packing::WIDTH;
+    let (read_on, last_row) = entries.split_at(full.len() * width + 1);
+    row_dots::<F, EF>(full, weights, &read_on[1..]);
+    let last_weight = weights[weights.len() - 1].ext_lane(F::Packing::WIDTH - 1);
+    subtract_borders(full, last_weight, entries, width);
+    *last = leading_lanes_dot::<F, EF>(weights, last_row);
+}
+
+/// Takes from each place the product of `weight` with the first entry of the row after its own.
+fn subtract_borders<F: Additive, EF: Algebra<F>>(
+    out: &mut [EF],
+    weight: EF,
+    entries: &[F],
+    width: usize,
+)
+    requires some { 0 < width }
+    requires size { length entries.now ≡ (length out.old + 1) * width }
+    ensures { (y : ℕ) → y < length out.old → slice_index_or out.new y EF.ring.zero
+        ≡ EF.ring.minus (slice_index_or out.old y EF.ring.zero)
+        (EF.ring.product weight (slice_index_or (map EF.embed entries.now) ((y + 1) * width) EF.ring.zero)) }
+{
+    for y in 0..out.len() {
+        out[y] = out[y] - weight.scale(entries[(y + 1) * width]);
     }
 }
 

@@ -1,5 +1,5 @@
 //! Rows of a table, each compressed by the split table to one entry.
-ghost use Rattle.std.specs.Prelude.{◌≡◌, ◌<◌, ◌≤◌, ◌*◌, length, map, IsTrue};
+ghost use Rattle.std.specs.Prelude.{◌≡◌, ◌<◌, ◌≤◌, ◌*◌, length, map, replicate, IsTrue};
 ghost use Rattle.std.specs.Mem.{type_size};
 ghost use Rattle.mlu_ring.specs.Lanes.{logical};
 ghost use Rattle.mlu_ring.specs.Tables.{back};
@@ -16,7 +16,7 @@ use mlu_ring::{
 };
 
 /// With more packed entries than these a split table is not joined.
-const MOST_JOINED: usize = 128;
+pub(super) const MOST_JOINED: usize = 128;
 
 /// Writes the dot of the split table with each row of `entries`. What `out` held does not
 /// count.
@@ -45,7 +45,7 @@ pub fn compress_suffix_into<F: Field, EF: ExtensionField<F>>(
 
 /// Whether the products of so many entries and so many packed weights have room on the stack.
 #[inline]
-fn can_be_joined<F: Field, EF: ExtensionField<F>>(rows: usize, weights: usize) -> bool
+pub(super) fn can_be_joined<F: Field, EF: ExtensionField<F>>(rows: usize, weights: usize) -> bool
     ensures { IsTrue result → (rows * weights ≤ MOST_JOINED) × (type_size EF.ExtensionPacking.row < SMALL_BYTES) }
 {
     rows.saturating_mul(weights) <= MOST_JOINED && is_small(&EF::ExtensionPacking::ZERO)
@@ -67,6 +67,19 @@ fn compress_by_joined<F: Field, EF: ExtensionField<F>>(
 {
     let mut places = [EF::ExtensionPacking::ZERO; MOST_JOINED];
     let joined = &mut places[..eq0.len() * weights.len()];
-    add_packed_rows::<F, EF>(eq0, joined, weights, EF::ONE);
+    join_halves::<F, EF>(eq0, joined, weights);
     row_dots::<F, EF>(out, joined, entries);
+}
+
+/// Writes the products of both halves over zeros, in the order of the table.
+pub(super) fn join_halves<F: Field, EF: ExtensionField<F>>(
+    eq0: &[EF],
+    joined: &mut [EF::ExtensionPacking],
+    weights: &[EF::ExtensionPacking],
+)
+    requires { joined.old ≡ replicate (length eq0.now * length weights.now) EF.ExtensionPacking.ring.zero }
+    ensures { logical EF.ExtensionPacking.ext_lanes joined.new
+        ≡ contents EF.ring eq0.now (logical EF.ExtensionPacking.ext_lanes weights.now) }
+{
+    add_packed_rows::<F, EF>(eq0, joined, weights, EF::ONE);
 }

@@ -1,15 +1,8 @@
-use Rattle.mlu_ring.proofs.Rings.{line_by_step}
-use Rattle.mlu_ring.proofs.RingMaps.{map-minus}
+use Rattle.mlu_eq.proofs.Lines.{line_of_images}
 use Rattle.mlu_eq.proofs.line.interpolate_base.Goals as goal
 
 pub returns : goal.returns
 returns g c =
-    let ring = g.EF.Additive.ring in
-    let laws = g.met.EF.Additive.laws in
-    let embed = g.EF.Algebra.embed in
-    let low = embed c.args.low in
     let subtracted = g.met.F.Additive.subtracts c.args.high c.args.low c.sub.result c.sub.ensures in
-    let embedded = map-minus g.F.Additive.ring g.met.F.Additive.laws ring laws embed g.met.EF.Algebra.keeps c.args.high c.args.low in
-    let swapped = laws.sum_comm (ring.product c.args.r (ring.minus (embed c.args.high) low)) low in
-    let step = line_by_step ring laws low (embed c.args.high) c.args.r in
-    cc (subtracted, embedded, c.scale.ensures, c.plus.ensures, swapped, step)
+    line_of_images g.F.Additive.ring g.met.F.Additive.laws g.EF.Additive.ring g.met.EF.Additive.laws g.EF.Algebra.embed g.met.EF.Algebra.keeps
+    c.args.low c.args.high c.sub.result c.args.r c.scale.result c.plus.result subtracted c.scale.ensures c.plus.ensures

@@ -1,17 +1,22 @@
-use Rattle.std.proofs.Common.{◌≡◌, ◌<◌, ◌≤◌, ◌*◌, ◌∙◌, length, map, take, replicate, refl, ap, sym, subst}
+use Rattle.std.proofs.Common.{◌<◌, ◌≤◌, ◌*◌, ◌∙◌, length, map, replicate, ap, sym, subst}
 use Rattle.std.proofs.Math.Nat.{mul_assoc}
 use Rattle.std.proofs.lemmas.List.{length-map, length-replicate, length-take-le, take-replicate}
 use Rattle.mlu_ring.specs.Lanes.{logical}
 use Rattle.mlu_ring.specs.Matrices.{row_at}
 use Rattle.mlu_ring.specs.Tables.{pair}
-use Rattle.mlu_ring.proofs.Logical.{length-logical, logical-replicate}
+use Rattle.mlu_ring.proofs.Logical.{length-logical}
 use Rattle.mlu_ring.proofs.Tabulated.{length-tabulate, get_or-tabulate}
 use Rattle.mlu_kernel.specs.Kernels.{dots_of_rows}
 use Rattle.mlu_eq.specs.Split.{contents}
 use Rattle.mlu_eq.proofs.Compressions.{back_of_dots}
 use Rattle.mlu_eq.proofs.Contents.{length-contents}
-use Rattle.mlu_eq.proofs.Zipped.{added_once}
 use Rattle.mlu_eq.proofs.split.suffix.compress_by_joined.Goals as goal
+
+pub join_halves-requires : goal.join_halves-requires
+join_halves-requires g c =
+    let n = length c.args.eq0.now * length c.args.weights.now in
+    take-replicate n 128 c.ZERO-places.result c.requires.few
+    ∙ ap (replicate n) (c.ZERO-places.ensures ∙ g.met.EF.ExtensionPacking.Additive.zero_is)
 
 pub row_dots-requires : goal.row_dots-requires
 row_dots-requires g c =
@@ -19,7 +24,7 @@ row_dots-requires g c =
     let width = g.F.Packing.PackedValue.WIDTH in
     let places = replicate 128 c.ZERO-places.result in
     let n = length c.args.eq0.now * length c.args.weights.now in
-    let long = c.add_packed_rows.auto.out ∙ length-take-le n places (subst (λ k. n ≤ k) (sym (length-replicate 128 c.ZERO-places.result)) c.requires.few) in
+    let long = c.join_halves.auto.joined ∙ length-take-le n places (subst (λ k. n ≤ k) (sym (length-replicate 128 c.ZERO-places.result)) c.requires.few) in
     c.requires.size
     ∙ ap (λ k. m * k) (sym (mul_assoc (length c.args.eq0.now) (length c.args.weights.now) width))
     ∙ ap (λ k. m * (k * width)) (sym long)
@@ -30,25 +35,14 @@ returns g c =
     let laws = g.met.EF.Additive.laws in
     let ext = g.EF.ExtensionPacking.PackedFieldExtension in
     let met = g.met.EF.ExtensionPacking.PackedFieldExtension in
-    let width = g.F.Packing.PackedValue.WIDTH in
-    let weights = c.args.weights.now in
-    let w = logical ext.ext_lanes weights in
+    let w = logical ext.ext_lanes c.args.weights.now in
     let table = contents ring c.args.eq0.now w in
     let e = map g.EF.Algebra.embed c.args.entries.now in
     let m = length c.args.out.now in
-    let wide = length-logical ext.ext_lanes width met.lanes_are.length-parts weights in
+    let wide = length-logical ext.ext_lanes g.F.Packing.PackedValue.WIDTH met.lanes_are.length-parts c.args.weights.now in
     let many = length-contents ring c.args.eq0.now w ∙ ap (λ k. length c.args.eq0.now * k) wide in
-    let n = length c.args.eq0.now * length weights in
-    let places = replicate 128 c.ZERO-places.result in
-    let zero = ap ext.ext_lanes (c.ZERO-places.ensures ∙ g.met.EF.ExtensionPacking.Additive.zero_is) ∙ met.lane_by_lane.zero in
-    let empty : logical ext.ext_lanes (take n places) ≡ replicate (length table) ring.zero =
-    ap (logical ext.ext_lanes) (take-replicate n 128 c.ZERO-places.result c.requires.few)
-    ∙ logical-replicate ext.ext_lanes width n c.ZERO-places.result ring.zero zero
-    ∙ ap (λ k. replicate k ring.zero) (mul_assoc (length c.args.eq0.now) (length weights) width ∙ sym many) in
-    let one = c.ONE.ensures ∙ g.met.EF.Additive.one_is in
-    let joined = c.add_packed_rows.ensures ∙ added_once ring laws (length table) (logical ext.ext_lanes (take n places)) table c.ONE.result refl empty one in
     c.row_dots.ensures
-    ∙ ap (λ t. dots_of_rows ring t e m) joined
+    ∙ ap (λ t. dots_of_rows ring t e m) c.join_halves.ensures
     ∙ back_of_dots ring laws table e (dots_of_rows ring table e m) m
     (subst (λ k. 0 < k) (sym many) c.requires.some)
     (length-map c.args.entries.now g.EF.Algebra.embed ∙ c.requires.size ∙ ap (λ k. m * k) (sym many))

@@ -1,7 +1,7 @@
 use Rattle.std.proofs.Common.{◌≡◌, map, take}
 use Rattle.mlu_kernel.specs.Kernels.{plus_rows}
 use Rattle.mlu_eq.specs.Split.{contents}
-use Rattle.mlu_eq.proofs.split.prefix.compress_prefix_into.Given as goal
+use Rattle.mlu_eq.proofs.split.prefix.compress_prefix_by_rows.Given as goal
 
 abbrev pub invariant-loop-j : goal.invariant-loop-j
 invariant-loop-j g l =

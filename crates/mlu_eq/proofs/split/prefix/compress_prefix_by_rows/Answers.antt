@@ -6,7 +6,7 @@ use Rattle.mlu_eq.specs.Split.{contents}
 use Rattle.mlu_eq.proofs.Compressions.{plus_rows-contents_more}
 use Rattle.mlu_eq.proofs.Contents.{length-contents}
 use Rattle.mlu_eq.proofs.RowsMapped.{row-map}
-use Rattle.mlu_eq.proofs.split.prefix.compress_prefix_into.Goals as goal
+use Rattle.mlu_eq.proofs.split.prefix.compress_prefix_by_rows.Goals as goal
 
 pub loop-j-init : goal.loop-j-init
 loop-j-init g c =

@@ -1,5 +1,0 @@
-use Rattle.std.proofs.Common.{◌≡◌, ◌++◌, map, take, drop}
-use Rattle.mlu_eq.proofs.split.runs.clear.Given as goal
-
-abbrev pub invariant-loop-place : goal.invariant-loop-place
-invariant-loop-place g l = l.out ≡ map (λ x. g.T.Additive.ring.zero) (take l.place-index l.initial.out) ++ drop l.place-index l.initial.out
