@@ -8,9 +8,9 @@ ghost use Rattle.mlu_sumcheck.specs.Rounds.{Fit, IsCaughtAt};
 
 use mlu_ring::PrimeCharacteristicRing;
 
-/// Where claims that fit end in the product of both tables' values at the challenges, the first claim
-/// is the sum of the products of both tables, or some round is not the tables' own and yet has its value
-/// at that round's challenge.
+/// Where claims fit and the last is the product of both tables' values at the challenges, the first
+/// claim is the sum of the products of both tables, or some round is false: it differs from the
+/// tables' own, but agrees with it at that round's challenge.
 ///
 /// Asks for `2^k` entries in each table and `k` rounds, where there are `k` challenges, and for one claim
 /// more than rounds.

@@ -7,8 +7,6 @@
 //! one product of two values at the challenges is left to test.
 //!
 //! Nothing here says how often a false claim passes; [`laws::caught`] says where it is caught.
-//!
-//! Stands on `mlu_ring` and the public calls of `multilinear_util`.
 #![tactic(auto)]
 
 pub mod laws;

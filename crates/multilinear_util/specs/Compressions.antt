@@ -11,10 +11,10 @@ prefix_compressed ring scale p e = map (ring.product scale) (front ring (weights
 abbrev pub suffix_compressed : {R : Type 0} → Ring R → R → List R → List R → List R
 suffix_compressed ring scale p e = map (ring.product scale) (back ring (weights ring p) e)
 
--- of a table of n entries: the value of what is left is that of the table at the point and what follows it, times the scale
+-- the value of left at rest is the scale times that of the table, of n entries, at the point followed by rest
 abbrev pub IsJoinedAfter : {R : Type 0} → Ring R → R → List R → ℕ → List R → List R → Type 0
 IsJoinedAfter {R} ring scale p n e left = (rest : List R) → n ≡ 2 ^ (length p + length rest) → value ring left rest ≡ ring.product scale (value ring e (p ++ rest))
 
--- of a table of n entries: the value of what is left is that of the table at what is before the point and the point, times the scale
+-- the value of left at first is the scale times that of the table, of n entries, at first followed by the point
 abbrev pub IsJoinedBefore : {R : Type 0} → Ring R → R → List R → ℕ → List R → List R → Type 0
 IsJoinedBefore {R} ring scale p n e left = (first : List R) → n ≡ 2 ^ (length first + length p) → value ring left first ≡ ring.product scale (value ring e (first ++ p))

@@ -3,8 +3,6 @@
 //! [`poly`] has the polynomials, owned and borrowed, scalar and packed: their folds, their packing
 //! and their values at points. The points, their equality tables and batches of tables come from
 //! `mlu_point`, the laws of the value from `mlu_eq`.
-//!
-//! Stands on `mlu_ring`, `mlu_point` and `mlu_eq`; the program stands on it.
 #![tactic(auto)]
 
 mod packing;

@@ -134,10 +134,10 @@ impl<F: Copy> Poly<F> {
         self.evals.truncate(half);
     }
 
-    /// A copy, in one growth of its size.
+    /// A copy, in one allocation of its size.
     ///
     /// # Errors
-    /// Where the growth is refused.
+    /// Where memory is refused.
     pub fn try_clone(&self, alloc: Global) -> Result<Self, AllocError>
         ensures { IfOk result (λ copy. copy ≡ self.now) }
     {
@@ -150,7 +150,7 @@ impl<F: PrimeCharacteristicRing> Poly<F> {
     /// The zero polynomial in `variables` variables. Asks that `2^variables` fits `usize`.
     ///
     /// # Errors
-    /// Where the growth is refused.
+    /// Where memory is refused.
     pub fn zero(alloc: Global, variables: usize) -> Result<Self, AllocError>
         requires { 2 ^ variables < 2 ^ 64 }
         ensures { IfOk result (λ p. p ≡ replicate (2 ^ variables) F.ring.zero) }
@@ -164,8 +164,8 @@ impl<F: PrimeCharacteristicRing> Poly<F> {
     /// values.
     ///
     /// # Errors
-    /// Where the growth is refused; the polynomial is then as before. The size that is there does not
-    /// fail.
+    /// Where memory is refused, and never where the size is as before; the polynomial is then as
+    /// before.
     pub fn pad_zeros(&mut self, variables: usize) -> Result<(), AllocError>
         requires fits { 2 ^ variables < 2 ^ 64 }
         requires grows { length self.old ≤ 2 ^ variables }
@@ -182,7 +182,7 @@ impl<F: Copy + Sample> Poly<F> {
     /// promised. Asks that `2^variables` fits `usize`.
     ///
     /// # Errors
-    /// Where the growth is refused.
+    /// Where memory is refused.
     pub fn rand<R: RngExt>(alloc: Global, rng: &mut R, variables: usize) -> Result<Self, AllocError>
         requires { 2 ^ variables < 2 ^ 64 }
         ensures { IfOk result (λ p. length p ≡ 2 ^ variables) }

@@ -1,4 +1,4 @@
-//! Equality tables in two halves, which are never joined.
+//! Equality tables kept in two halves.
 //!
 //! The table of a point keeps `eq0`, the weights of the first half of the coordinates times the
 //! scale, and `eq1`, the weights of the others, as scalars or packed. With `L` weights in `eq1`,

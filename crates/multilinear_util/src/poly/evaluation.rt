@@ -50,9 +50,9 @@ impl<F: Field> PolyView<'_, F> {
         Ok(split.eval_base(*self))
     }
 
-    /// The sum of the values, each times the weights at the point of the vertices that it is the
-    /// next of: the weight of `x` times value `x + 1`, and the last weight times the last value.
-    /// Asks for a point with as many coordinates as there are variables.
+    /// The sum of the weight at the point of each vertex times the value at the next: the weight of
+    /// `x` times value `x + 1`, and the last weight times the last value. Asks for a point with as
+    /// many coordinates as there are variables.
     ///
     /// # Errors
     /// Where memory is refused.
@@ -67,9 +67,9 @@ impl<F: Field> PolyView<'_, F> {
         self.eval_next_base_by(alloc, Successor::RepeatLast, point)
     }
 
-    /// The sum of the values, each times the weights at the point of the vertices whose successor by
-    /// the rule it stands at: the weight of `x` times value `x + 1`, and the last weight times the
-    /// last value or the first. Asks for a point with as many coordinates as there are variables.
+    /// The sum of the weight at the point of each vertex times the value at its successor by the
+    /// rule: the weight of `x` times value `x + 1`, and the last weight times the last value or the
+    /// first. Asks for a point with as many coordinates as there are variables.
     ///
     /// # Errors
     /// Where memory is refused.

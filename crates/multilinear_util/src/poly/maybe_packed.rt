@@ -116,10 +116,10 @@ impl<F: Field, EF: ExtensionField<F>> PolyMaybePacked<F, EF> {
         self.as_view().eval(alloc, point)
     }
 
-    /// A copy, in one growth of its size.
+    /// A copy, in one allocation of its size.
     ///
     /// # Errors
-    /// Where the growth is refused.
+    /// Where memory is refused.
     pub fn try_clone(&self, alloc: Global) -> Result<Self, AllocError>
         ensures { IfOk result (λ copy. copy ≡ self.now) }
     {

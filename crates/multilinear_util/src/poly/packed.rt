@@ -11,7 +11,7 @@ use std::alloc::{AllocError, Global};
 
 impl<A: Copy> PolyView<'_, A> {
     /// The packed table whose lanes, joined in order, are the values. Asks that `n >= log2(W)`, where
-    /// there are `n` variables.
+    /// there are `n` variables. `EF` plays no part: it stands in the original's signature.
     ///
     /// # Errors
     /// Where the memory for the table is refused.

@@ -30,7 +30,7 @@ impl<F> Copy for PolyView<'_, F> {}
 impl<'a, F: Copy> PolyView<'a, F> {
     ghost use Rattle.std.specs.Slice.Iter.{iter_rest, iter_steps};
     ghost use Rattle.std.specs.Iterator.Runs.{EveryRun, ItemsMapTo};
-    ghost use Rattle.multilinear_util.specs.Views.{entries};
+    ghost use Rattle.multilinear_util.specs.Views.{entries, variables};
 
     /// The polynomial with these values. Asks that their number is a power of two.
     #[inline]
@@ -55,6 +55,7 @@ impl<'a, F: Copy> PolyView<'a, F> {
     pub fn num_variables(&self) -> usize
         ensures value { length (entries self.now) ≡ 2 ^ result }
         ensures small { result < 64 }
+        ensures same { result ≡ variables self.now }
     {
         self.evals.len().trailing_zeros() as usize
     }

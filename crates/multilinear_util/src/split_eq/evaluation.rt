@@ -26,9 +26,8 @@ impl<F: Field, EF: ExtensionField<F>> SplitEq<F, EF> {
         split::dot_base(eq0, eq1, poly.as_slice())
     }
 
-    /// The sum of the polynomial's base values, each times the entries of the places that it is the
-    /// next of: entry `x` times value `x + 1`, and the last entry times the last value. Asks for as many
-    /// values as entries.
+    /// The sum of each entry times the polynomial's base value at the next place: entry `x` times
+    /// value `x + 1`, and the last entry times the last value. Asks for as many values as entries.
     pub fn eval_next_base(&self, poly: PolyView<'_, F>) -> EF
         requires { length (entries poly) ≡ length (split_entries EF.ring self.now) }
         ensures { result ≡ pair EF.ring (next EF.ring (split_entries EF.ring self.now)) (map EF.embed (entries poly.entry)) }
@@ -36,9 +35,9 @@ impl<F: Field, EF: ExtensionField<F>> SplitEq<F, EF> {
         self.eval_next_base_by(Successor::RepeatLast, poly)
     }
 
-    /// The sum of the polynomial's base values, each times the entries of the places whose successor
-    /// by the rule it stands at: entry `x` times value `x + 1`, and the last entry times the last
-    /// value or the first. Asks for as many values as entries.
+    /// The sum of each entry times the polynomial's base value at the successor of its place by the
+    /// rule: entry `x` times value `x + 1`, and the last entry times the last value or the first. Asks
+    /// for as many values as entries.
     pub fn eval_next_base_by(&self, rule: Successor, poly: PolyView<'_, F>) -> EF
         requires { length (entries poly) ≡ length (split_entries EF.ring self.now) }
         ensures { result ≡ pair EF.ring (next_by rule EF.ring (split_entries EF.ring self.now)) (map EF.embed (entries poly.entry)) }

@@ -1,4 +1,4 @@
-use Rattle.std.proofs.Common.{◌≡◌, ◌+◌, ◌/◌, ◌<◌, length, get_or, ap, sym, ◌∙◌, arith}
+use Rattle.std.proofs.Common.{◌≡◌, ◌+◌, ◌/◌, ◌<◌, length, ap, sym, ◌∙◌, arith}
 use Rattle.std.proofs.lemmas.List.{get_or_default}
 use Rattle.mlu_ring.proofs.SumsBelow.{sum_below-zero}
 use Rattle.mlu_sumcheck.proofs.Rounds.{low-more, step-more, constant-sum, quadratic-sum, round-of_claim, adds_up-of_claim}
