@@ -28,7 +28,7 @@ pub fn both_forms_agree<F: Field + Sample, EF: ExtensionField<F> + Sample>(
     Ok(true)
 }
 
-/// Whether both forms of each kernel agree, for a few of these numbers and longer outputs too.
+/// The same for a few of these numbers, where all take long.
 pub fn both_forms_agree_at_few<F: Field + Sample, EF: ExtensionField<F> + Sample>(
     alloc: Global,
 ) -> Result<bool, AllocError>
@@ -36,27 +36,11 @@ pub fn both_forms_agree_at_few<F: Field + Sample, EF: ExtensionField<F> + Sample
 {
     let mut rng = Pcg32::new(4, 54);
     for n in 0..131 {
-        if (n <= 5 || n == 130) && !longer_forms_agree_at::<F, EF>(alloc, &mut rng, n)? {
+        if (n <= 5 || n == 130) && !forms_agree_at::<F, EF>(alloc, &mut rng, n)? {
             return Ok(false);
         }
     }
     Ok(true)
-}
-
-/// [`forms_agree_at`], and outputs of more packed values.
-fn longer_forms_agree_at<F: Field + Sample, EF: ExtensionField<F> + Sample>(
-    alloc: Global,
-    rng: &mut Pcg32,
-    n: usize,
-) -> Result<bool, AllocError>
-    requires weights { n < 256 }
-    requires lanes { F.Packing.WIDTH < 32 }
-{
-    Ok(
-        forms_agree_at::<F, EF>(alloc, rng, n)?
-            && prefix_forms_agree::<F, EF>(alloc, rng, n, 8)?
-            && prefix_forms_agree::<F, EF>(alloc, rng, n, 17)?,
-    )
 }
 
 /// Whether both forms of each kernel agree, for `n` packed weights: the dot of two rows, and outputs
@@ -73,7 +57,9 @@ fn forms_agree_at<F: Field + Sample, EF: ExtensionField<F> + Sample>(
         dot_forms_agree::<F, EF>(alloc, rng, n)?
             && prefix_forms_agree::<F, EF>(alloc, rng, n, 0)?
             && prefix_forms_agree::<F, EF>(alloc, rng, n, 1)?
-            && prefix_forms_agree::<F, EF>(alloc, rng, n, 5)?,
+            && prefix_forms_agree::<F, EF>(alloc, rng, n, 5)?
+            && prefix_forms_agree::<F, EF>(alloc, rng, n, 8)?
+            && prefix_forms_agree::<F, EF>(alloc, rng, n, 17)?,
     )
 }
 

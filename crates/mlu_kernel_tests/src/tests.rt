@@ -156,44 +156,19 @@ fn both_forms_over_the_quartic(rt: HostRuntime) -> Result<(), Fail> {
 }
 
 #[test]
-fn both_forms_over_products(rt: HostRuntime) -> Result<(), Fail> {
+fn both_forms_over_eight_copies(rt: HostRuntime) -> Result<(), Fail> {
+    assert!(rt; eight_copies::<1>(rt.alloc(), Row::BothForms)?);
+    assert!(rt; eight_copies::<2>(rt.alloc(), Row::BothForms)?);
     assert!(rt; eight_copies::<4>(rt.alloc(), Row::BothForms)?);
-    assert!(rt; nine_copies::<4>(rt.alloc(), Row::BothForms)?);
-    Ok(())
-}
-
-#[test]
-fn a_few_over_the_field(rt: HostRuntime) -> Result<(), Fail> {
-    assert!(rt; residues::<1>(rt.alloc(), Row::BothFormsAtFew)?);
-    assert!(rt; residues::<2>(rt.alloc(), Row::BothFormsAtFew)?);
-    assert!(rt; residues::<4>(rt.alloc(), Row::BothFormsAtFew)?);
-    assert!(rt; residues::<8>(rt.alloc(), Row::BothFormsAtFew)?);
-    Ok(())
-}
-
-#[test]
-fn a_few_over_the_quartic(rt: HostRuntime) -> Result<(), Fail> {
-    assert!(rt; quartics::<1>(rt.alloc(), Row::BothFormsAtFew)?);
-    assert!(rt; quartics::<2>(rt.alloc(), Row::BothFormsAtFew)?);
-    assert!(rt; quartics::<4>(rt.alloc(), Row::BothFormsAtFew)?);
-    assert!(rt; quartics::<8>(rt.alloc(), Row::BothFormsAtFew)?);
-    Ok(())
-}
-
-#[test]
-fn a_few_over_eight_copies(rt: HostRuntime) -> Result<(), Fail> {
-    assert!(rt; eight_copies::<1>(rt.alloc(), Row::BothFormsAtFew)?);
-    assert!(rt; eight_copies::<2>(rt.alloc(), Row::BothFormsAtFew)?);
-    assert!(rt; eight_copies::<4>(rt.alloc(), Row::BothFormsAtFew)?);
     assert!(rt; eight_copies::<8>(rt.alloc(), Row::BothFormsAtFew)?);
     Ok(())
 }
 
 #[test]
-fn a_few_over_nine_copies(rt: HostRuntime) -> Result<(), Fail> {
-    assert!(rt; nine_copies::<1>(rt.alloc(), Row::BothFormsAtFew)?);
-    assert!(rt; nine_copies::<2>(rt.alloc(), Row::BothFormsAtFew)?);
-    assert!(rt; nine_copies::<4>(rt.alloc(), Row::BothFormsAtFew)?);
+fn both_forms_over_nine_copies(rt: HostRuntime) -> Result<(), Fail> {
+    assert!(rt; nine_copies::<1>(rt.alloc(), Row::BothForms)?);
+    assert!(rt; nine_copies::<2>(rt.alloc(), Row::BothForms)?);
+    assert!(rt; nine_copies::<4>(rt.alloc(), Row::BothForms)?);
     assert!(rt; nine_copies::<8>(rt.alloc(), Row::BothFormsAtFew)?);
     Ok(())
 }

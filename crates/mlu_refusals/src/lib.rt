@@ -8,8 +8,6 @@
 //! A call is a function over any rings, which gives whether the answer is right and fails only where
 //! the call is refused; so all that it needs is made before it. `residues` alone names a ring,
 //! since each function that does takes long to prove.
-//!
-//! Stands on every crate whose calls take memory; nothing stands on it.
 #![tactic(auto)]
 
 #[cfg(test)]

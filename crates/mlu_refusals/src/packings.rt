@@ -17,6 +17,8 @@ pub enum Call {
     Unpack(Receiver),
     UnpackStorage,
     EvalPacked(Receiver),
+    EvalStorage(Receiver),
+    CloneStorage,
 }
 
 /// What becomes of the call. Fails where its inputs are refused.
@@ -31,6 +33,8 @@ pub fn made<F: Field, EF: ExtensionField<F>>(
         Call::Unpack(receiver) => unpack::<F, EF>(alloc, receiver),
         Call::UnpackStorage => unpack_storage::<F, EF>(alloc),
         Call::EvalPacked(receiver) => eval_packed::<F, EF>(alloc, receiver),
+        Call::EvalStorage(receiver) => eval_storage::<F, EF>(alloc, receiver),
+        Call::CloneStorage => clone_storage::<F, EF>(alloc),
     }
 }
 
@@ -134,6 +138,46 @@ fn eval_packed<F: Field, EF: ExtensionField<F>>(
     Ok(judge(answered, true))
 }
 
+/// The storage with the values 1, 2, .., 8, in lanes.
+fn storage<F: Field, EF: ExtensionField<F>>(
+    alloc: Global,
+) -> Result<PolyMaybePacked<F, EF>, AllocError>
+    requires { F.Packing.WIDTH ≡ 4 }
+{
+    Ok(PolyMaybePacked::Packed(packed::<F, EF>(alloc)?))
+}
+
+fn eval_storage<F: Field, EF: ExtensionField<F>>(
+    alloc: Global,
+    receiver: Receiver,
+) -> Result<Outcome, AllocError>
+    requires { F.Packing.WIDTH ≡ 4 }
+{
+    let point = point::<EF>(alloc)?;
+    let storage = storage::<F, EF>(alloc)?;
+    if storage.num_variables() != point.num_variables() {
+        return Err(AllocError);
+    }
+    let answer = match receiver {
+        Receiver::Owner => storage.eval(alloc, &point),
+        Receiver::View => storage.as_view().eval(alloc, &point),
+    };
+    Ok(match answer {
+        Ok(value) => judge(Ok(value == element(20)), true),
+        Err(refused) => judge(Err(refused), true),
+    })
+}
+
+fn clone_storage<F: Field, EF: ExtensionField<F>>(alloc: Global) -> Result<Outcome, AllocError>
+    requires { F.Packing.WIDTH ≡ 4 }
+{
+    let storage = storage::<F, EF>(alloc)?;
+    Ok(match storage.try_clone(alloc) {
+        Ok(copy) => judge(Ok(copy.num_variables() == 3), true),
+        Err(refused) => judge(Err(refused), true),
+    })
+}
+
 #[test]
 fn packed_poly(rt: HostRuntime) -> Result<(), Fail> {
     tried(
@@ -158,6 +202,33 @@ fn unpacked_storage(rt: HostRuntime) -> Result<(), Fail> {
         &rt,
         "PolyMaybePacked::unpack",
         AnyCall::Packing(Call::UnpackStorage),
+    )
+}
+
+#[test]
+fn value_of_packed_storage(rt: HostRuntime) -> Result<(), Fail> {
+    tried(
+        &rt,
+        "PolyMaybePacked::eval of packed values",
+        AnyCall::Packing(Call::EvalStorage(Receiver::Owner)),
+    )
+}
+
+#[test]
+fn value_of_borrowed_packed_storage(rt: HostRuntime) -> Result<(), Fail> {
+    tried(
+        &rt,
+        "PolyMaybePackedView::eval of packed values",
+        AnyCall::Packing(Call::EvalStorage(Receiver::View)),
+    )
+}
+
+#[test]
+fn copied_packed_storage(rt: HostRuntime) -> Result<(), Fail> {
+    tried(
+        &rt,
+        "PolyMaybePacked::try_clone of packed values",
+        AnyCall::Packing(Call::CloneStorage),
     )
 }
 

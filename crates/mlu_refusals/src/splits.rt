@@ -103,13 +103,28 @@ fn accumulate_into_packed<F: Field, EF: ExtensionField<F>>(
     let split = split::<F, EF>(alloc, point)?;
     let mut out: Vec<EF::ExtensionPacking> = elements(alloc, &[1, 1])?;
     let done = split.accumulate_into_packed(alloc, out.as_mut_slice(), None);
-    let wanted = element(if done.is_ok() { 31 } else { 1 });
-    let last = EF::ExtensionPacking::to_ext_iter(out.as_slice()).last();
-    let right = last == Some(wanted);
+    let out = out.as_slice();
     Ok(match done {
-        Ok(()) => judge(Ok(true), right),
-        Err(refused) => judge(Err(refused), right),
+        Ok(()) => {
+            let right = has_lanes::<F, EF>(out, &[-7, 11, 13, -14, 17, -19, -23, 31]);
+            judge(Ok(true), right)
+        }
+        Err(refused) => judge(Err(refused), has_lanes::<F, EF>(out, &[1; 8])),
     })
+}
+
+/// Whether these are the lanes, joined in order.
+fn has_lanes<F: Field, EF: ExtensionField<F>>(
+    packed: &[EF::ExtensionPacking],
+    numbers: &[i32],
+) -> bool {
+    let mut lanes = EF::ExtensionPacking::to_ext_iter(packed);
+    for number in numbers {
+        if lanes.next() != Some(element(*number)) {
+            return false;
+        }
+    }
+    lanes.next().is_none()
 }
 
 fn value_of_lanes<F: Field, EF: ExtensionField<F>>(

@@ -7,8 +7,6 @@
 //!
 //! The files are those of the calls in `mlu_replay_calls`; `recorded` alone names a ring, since each
 //! function that does takes long to prove.
-//!
-//! Stands on `mlu_replay_calls`; nothing stands on it.
 #![tactic(auto)]
 
 #[cfg(test)]

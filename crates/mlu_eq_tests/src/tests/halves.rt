@@ -1,4 +1,4 @@
-//! Drawn half tables, as scalars and packed, against the whole split table.
+//! Drawn second halves, as scalars and packed, against the whole split table.
 ghost use Rattle.std.specs.Prelude.{◌≡◌, ◌*◌, ◌<◌, IfOk, IfSome, IsTrue, length};
 ghost use Rattle.std.specs.Int.{is_power_of_two};
 
@@ -136,7 +136,7 @@ fn halves_agree<F: Field + Sample, EF: ExtensionField<F> + Sample>(
     }
 }
 
-/// Whether half tables of up to sixteen drawn weights are as they must be.
+/// Whether second halves of up to sixteen drawn weights are as they must be.
 pub fn tables_agree<F: Field + Sample, EF: ExtensionField<F> + Sample>(
     alloc: Global,
 ) -> Result<bool, AllocError>

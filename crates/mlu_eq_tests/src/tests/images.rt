@@ -1,4 +1,4 @@
-//! The images of half tables in other rings.
+//! The images of second halves in other rings.
 ghost use Rattle.std.specs.Prelude.{◌≡◌, length};
 
 use super::halves::{packed_half, scalar_half};

@@ -1,4 +1,4 @@
-//! The steps to the next row of a half table, and the sums with the whole table moved up by one
+//! The steps to the next row of a second half, and the sums with the whole table shifted by one
 //! place.
 ghost use Rattle.std.specs.Prelude.{◌≡◌, ◌*◌, ◌<◌, length};
 

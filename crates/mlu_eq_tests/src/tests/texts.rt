@@ -1,4 +1,4 @@
-//! What `{:?}` prints of half tables.
+//! What `{:?}` prints of second halves of split tables.
 use mlu_eq::half;
 use mlu_lanes::{BabyBear, Lanes};
 use mlu_test_support::numbers::elements;

@@ -1,4 +1,4 @@
-use Rattle.std.proofs.Common.{◌≡◌, ◌*◌, ◌/◌, ◌<◌, ◌≤◌, length, sym, subst, ap, ◌∙◌, rules}
+use Rattle.std.proofs.Common.{◌≡◌, ◌*◌, ◌/◌, ◌≤◌, length, sym, subst, ap, ◌∙◌, rules}
 use Rattle.std.proofs.Math.Nat.{mul-div_cancel}
 use Rattle.mlu_ring.proofs.Rows.{rows_of-multiple}
 use Rattle.mlu_point.proofs.Sizes.{places-of_rows}
