@@ -20,8 +20,7 @@ fn eval(alloc: Global, table: &str, point: &str) -> Result<Vec<u8>, Fault>
     Ok(line)
 }
 
-/// The sum of a table's values, each times the weights at a point of the vertices that it is the
-/// next of.
+/// The sum of the weight at a point of each vertex times the table's value at the next one.
 fn next(alloc: Global, table: &str, point: &str) -> Result<Vec<u8>, Fault>
     ensures { Answers (Next table.now point.now) result }
 {
@@ -94,7 +93,7 @@ fn sumcheck(alloc: Global, table: &str, point: &str, challenges: &str) -> Result
     Ok(lines)
 }
 
-/// The line that answers the words after the program's name, or the first of their faults.
+/// The lines that answer the words after the program's name, or the first fault of the words.
 ///
 /// # Errors
 /// The faults of the words, whatever memory does; where they have none, want of memory.

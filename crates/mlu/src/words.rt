@@ -17,7 +17,7 @@ fn has_plain_start(word: &str) -> bool
     !word.starts_with('+') && (word.len() == 1 || !word.starts_with('0'))
 }
 
-/// The element of which the word is the decimal, and `None` exactly where it is that of none.
+/// The element whose decimal the word is, and `None` exactly where it is the decimal of no element.
 pub fn number(word: &str) -> Option<Element>
     ensures { MatchOption result (IsNoDecimal word.now) (λ x. decimal_of x ≡ word.now) }
 {
@@ -31,8 +31,8 @@ pub fn number(word: &str) -> Option<Element>
     }
 }
 
-/// How many entries the list has of which the word is the text, and `None` exactly where it is that of
-/// none. Takes no memory.
+/// The number of entries of the list that the word writes, and `None` exactly where it writes none.
+/// Takes no memory.
 pub fn count(word: &str) -> Option<usize>
     ensures { MatchOption result (IsNoList word.now) (λ n. IsTextOf n word.now) }
 {
@@ -47,7 +47,7 @@ pub fn count(word: &str) -> Option<usize>
     Some(n)
 }
 
-/// The list of which the word is the text. Asks for such a word, and for the number of entries.
+/// The list that the word writes. Asks for a word that writes one, and for its number of entries.
 ///
 /// # Errors
 /// Where memory is refused.

@@ -1,8 +1,7 @@
 //! Kernels for the benchmark in `bench/`, as C functions over words.
 //!
 //! Each makes elements of the words and repeats one operation on them, place by place, or one call
-//! on tables and points of the base and of the extension of degree four. Stands on `multilinear_util`
-//! and `mlu_sumcheck`; nothing stands on it.
+//! on tables and points of the base and of the extension of degree four.
 #![tactic(auto)]
 
 mod batches;

@@ -15,7 +15,12 @@ use mlu_ring::{ExtensionField, Field, RowMajorMatrixView};
 use std::alloc::{AllocError, Global};
 
 /// Tests the coordinates of points, a scalar for each point, and a table.
-fn test<T: Words>(adds: bool, values: &[u32], scalars: &[u32], out: &[u32]) -> Result<(), Fault>
+fn check_operands<T: Words>(
+    adds: bool,
+    values: &[u32],
+    scalars: &[u32],
+    out: &[u32],
+) -> Result<(), Fault>
     ensures { Tested
         (AreWhole T.coding values.now × AreWhole T.coding scalars.now × IsTable T.coding out.now)
         (AreRows (element_count T.coding values.now) (element_count T.coding scalars.now)
@@ -98,7 +103,7 @@ pub fn eval_eq_batch<F: Field, EF: ExtensionField<F> + Words>(
 ) -> Result<(), Fault>
     ensures { Batches EF.coding EF.ring adds values.now scalars.now out.old out.new result }
 {
-    test::<EF>(adds, values, scalars, out)?;
+    check_operands::<EF>(adds, values, scalars, out)?;
     let table = table::<F, EF>(alloc, adds, values, scalars, out)?;
     write(table.as_slice(), out);
     Ok(())

@@ -14,7 +14,7 @@ use mlu_ring::{ExtensionField, Field};
 use std::alloc::Global;
 
 /// Tests a table, a point, a scale and the room for the table that is left.
-fn test<A: Words, B: Words>(
+fn check_operands<A: Words, B: Words>(
     table: &[u32],
     point: &[u32],
     scale: &[u32],
@@ -56,7 +56,7 @@ pub fn compress_prefix<F: Field + Words, EF: ExtensionField<F> + Words>(
     ensures { Compresses F.coding EF.coding (λ e p s. prefix_compressed EF.ring s p (map EF.embed e))
         table.now point.now scale.now out.old out.new result }
 {
-    test::<F, EF>(table, point, scale, out)?;
+    check_operands::<F, EF>(table, point, scale, out)?;
     let (table, point) = table_and_point::<F, EF>(alloc, table, point)?;
     let left = table.compress_prefix(alloc, &point, EF::from_words(scale))?;
     write(left.as_slice(), out);
@@ -74,7 +74,7 @@ pub fn compress_suffix<F: Field + Words, EF: ExtensionField<F> + Words>(
     ensures { Compresses F.coding EF.coding (λ e p s. suffix_compressed EF.ring s p (map EF.embed e))
         table.now point.now scale.now out.old out.new result }
 {
-    test::<F, EF>(table, point, scale, out)?;
+    check_operands::<F, EF>(table, point, scale, out)?;
     let (table, point) = table_and_point::<F, EF>(alloc, table, point)?;
     let left = table.compress_suffix(alloc, &point, EF::from_words(scale))?;
     write(left.as_slice(), out);

@@ -15,7 +15,11 @@ use mlu_ring::{ExtensionField, Field};
 use std::alloc::Global;
 
 /// Tests a table, a point and the room for an element.
-fn test<A: Words, B: Words>(table: &[u32], point: &[u32], out: &[u32]) -> Result<(), Fault>
+fn check_operands<A: Words, B: Words>(
+    table: &[u32],
+    point: &[u32],
+    out: &[u32],
+) -> Result<(), Fault>
     ensures { Tested
         (IsTable A.coding table.now × AreWhole B.coding point.now × IsOne B.coding out.now)
         (element_count A.coding table.now ≡ 2 ^ element_count B.coding point.now)
@@ -42,15 +46,15 @@ pub fn eval_base<F: Field + Words, EF: ExtensionField<F> + Words>(
 ) -> Result<(), Fault>
     ensures { Evaluates F.coding EF.coding (λ e p. value EF.ring (map EF.embed e) p) table.now point.now out.old out.new result }
 {
-    test::<F, EF>(table, point, out)?;
+    check_operands::<F, EF>(table, point, out)?;
     let (table, point) = table_and_point::<F, EF>(alloc, table, point)?;
     let value = table.eval_base(alloc, &point)?;
     value.put(out);
     Ok(())
 }
 
-/// The sum of the values of a table over the base, each times the weight at a point of the vertex
-/// that it is the next of.
+/// The sum of the weight at a point of each vertex times the value at the next one, of a table over
+/// the base.
 pub fn eval_next_base<F: Field + Words, EF: ExtensionField<F> + Words>(
     alloc: Global,
     table: &[u32],
@@ -60,7 +64,7 @@ pub fn eval_next_base<F: Field + Words, EF: ExtensionField<F> + Words>(
     ensures { Evaluates F.coding EF.coding (λ e p. pair EF.ring (next EF.ring (weights EF.ring p)) (map EF.embed e))
         table.now point.now out.old out.new result }
 {
-    test::<F, EF>(table, point, out)?;
+    check_operands::<F, EF>(table, point, out)?;
     let (table, point) = table_and_point::<F, EF>(alloc, table, point)?;
     let value = table.eval_next_base(alloc, &point)?;
     value.put(out);
@@ -76,7 +80,7 @@ pub fn eval_ext<F: Field, EF: ExtensionField<F> + Words>(
 ) -> Result<(), Fault>
     ensures { Evaluates EF.coding EF.coding (λ e p. value EF.ring e p) table.now point.now out.old out.new result }
 {
-    test::<EF, EF>(table, point, out)?;
+    check_operands::<EF, EF>(table, point, out)?;
     let (table, point) = table_and_point::<EF, EF>(alloc, table, point)?;
     let value = table.eval_ext::<F>(alloc, &point)?;
     value.put(out);

@@ -14,7 +14,7 @@ use mlu_ring::SelfAlgebra;
 use std::alloc::Global;
 
 /// Tests a table that has a variable, and an element.
-fn test<T: Words>(table: &[u32], r: &[u32]) -> Result<(), Fault>
+fn check_operands<T: Words>(table: &[u32], r: &[u32]) -> Result<(), Fault>
     ensures { Tested
         (IsTable T.coding table.now × IsOne T.coding r.now)
         (1 < element_count T.coding table.now)
@@ -40,7 +40,7 @@ pub fn fix_prefix_var_mut<R: SelfAlgebra + Words>(
 ) -> Result<(), Fault>
     ensures { Folds R.coding (λ r e. front R.ring (line R.ring r) e) r.now words.old words.new result }
 {
-    test::<R>(words, r)?;
+    check_operands::<R>(words, r)?;
     let mut table = table::<R>(alloc, words)?;
     table.fix_prefix_var_mut(R::from_words(r));
     let half = words.len() / 2;
@@ -56,7 +56,7 @@ pub fn fix_suffix_var_mut<R: SelfAlgebra + Words>(
 ) -> Result<(), Fault>
     ensures { Folds R.coding (λ r e. back R.ring (line R.ring r) e) r.now words.old words.new result }
 {
-    test::<R>(words, r)?;
+    check_operands::<R>(words, r)?;
     let mut table = table::<R>(alloc, words)?;
     table.fix_suffix_var_mut(R::from_words(r));
     let half = words.len() / 2;

@@ -8,7 +8,7 @@
 //! [`fault::Fault`] has them, and 5 where a proof is refused. It writes at the end alone, so an
 //! output is as before wherever the status is not 0.
 //!
-//! Stands on `multilinear_util` and `mlu_sumcheck`; `bindings/` stands on this crate.
+//! Sizes and statuses of each call stand in `bindings/c/mlu.h`.
 #![tactic(auto)]
 
 ghost use Rattle.std.specs.Prelude.{map};
@@ -58,8 +58,8 @@ pub extern "C" fn mlu_eval_ext(alloc: Global, table: &[u32], point: &[u32], out:
     status(evaluation::eval_ext::<Element, Extension>(alloc, table, point, out))
 }
 
-/// The sum of the values of a table over the base field, each times the weight at a point of the
-/// vertex that it is the next of.
+/// The sum of the weight at a point of each vertex times the value at the next one, of a table over
+/// the base field.
 #[unsafe(no_mangle)]
 pub extern "C" fn mlu_eval_next_base(
     alloc: Global,

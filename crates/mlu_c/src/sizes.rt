@@ -35,14 +35,14 @@ pub fn is_table<T: Words>(words: &[u32]) -> bool
     are_whole::<T>(words) && count_of::<T>(words).is_power_of_two()
 }
 
-/// Whether a table of so many entries has so many variables.
+/// Whether `entries` is `2^variables`.
 pub fn has_variables(entries: usize, variables: usize) -> bool
     ensures { IsTrue result ↔ (entries ≡ 2 ^ variables) }
 {
     variables < usize::BITS as usize && entries == 1 << variables
 }
 
-/// Whether so many entries are `2^variables` rows of so many.
+/// Whether `entries` is `2^variables * width`.
 pub fn has_rows(entries: usize, variables: usize, width: usize) -> bool
     ensures { IsTrue result ↔ (entries ≡ 2 ^ variables * width) }
 {
@@ -52,8 +52,8 @@ pub fn has_rows(entries: usize, variables: usize, width: usize) -> bool
     (1_usize << variables).checked_mul(width) == Some(entries)
 }
 
-/// Whether so many values are coordinates of so many points, and a table of so many entries has as
-/// many variables; with no points it may have any number.
+/// Whether `values` is a whole number of coordinates for each of the points, and `entries` a table
+/// with as many variables; with no points there are no values, and any entries do.
 pub fn has_points(values: usize, points: usize, entries: usize) -> bool
     ensures { IsTrue result ↔ AreRows values points × (0 < points → entries ≡ 2 ^ (values / points)) }
 {

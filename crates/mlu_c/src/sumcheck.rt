@@ -27,7 +27,7 @@ struct Proof<E> {
 }
 
 /// Tests a table, a point, challenges and the room for rounds and claims.
-fn test_run<T: Words>(
+fn check_run<T: Words>(
     table: &[u32],
     point: &[u32],
     challenges: &[u32],
@@ -119,7 +119,7 @@ fn prove<F: Field, EF: ExtensionField<F> + SelfAlgebra>(
     ensures round_elements { IfOk result (λ proof. length proof.rounds.items ≡ length challenges.now * 3) }
     ensures claim_elements { IfOk result (λ proof. length proof.claims.items ≡ length challenges.now + 1) }
 {
-    // Its weights are as many as the entries, which a `usize` counts.
+    // Called for its clauses: the number of entries, and so of weights, fits a `usize`.
     let _entries = table.num_evals();
     let weights = SplitEq::<F, EF>::new_packed(alloc, point, EF::ONE)?;
     let Transcript { rounds, claims } = run(alloc, table, &weights, challenges)?;
@@ -142,7 +142,7 @@ pub fn sumcheck_run<F: Field, EF: ExtensionField<F> + SelfAlgebra + Words>(
     requires round_fits { 3 * type_size EF.row < 2 ^ 63 }
     ensures { Proves EF.coding EF.ring table.now point.now challenges.now rounds.old claims.old rounds.new claims.new result }
 {
-    test_run::<EF>(table, point, challenges, rounds, claims)?;
+    check_run::<EF>(table, point, challenges, rounds, claims)?;
     let (table, point) = table_and_point::<EF, EF>(alloc, table, point)?;
     let challenges: Vec<EF> = read(alloc, challenges)?;
     let proof = prove::<F, EF>(alloc, &table, &point, challenges.as_slice())?;
@@ -152,7 +152,7 @@ pub fn sumcheck_run<F: Field, EF: ExtensionField<F> + SelfAlgebra + Words>(
 }
 
 /// Tests a claim, rounds, challenges and the room for a claim.
-fn test_verify<T: Words>(
+fn check_verify<T: Words>(
     claim: &[u32],
     rounds: &[u32],
     challenges: &[u32],
@@ -210,7 +210,7 @@ pub fn sumcheck_verify<R: PrimeCharacteristicRing + Words>(
     requires round_fits { 3 * type_size R.row < 2 ^ 63 }
     ensures { Verifies R.coding R.ring claim.now rounds.now challenges.now out.old out.new result }
 {
-    test_verify::<R>(claim, rounds, challenges, out)?;
+    check_verify::<R>(claim, rounds, challenges, out)?;
     let last = last_claim(alloc, R::from_words(claim), rounds, challenges)?;
     match last {
         None => Ok(false),

@@ -14,7 +14,7 @@ use mlu_ring::PrimeCharacteristicRing;
 use std::alloc::{AllocError, Global};
 
 /// Tests a point, a scale and the room for a table.
-fn test<T: Words>(point: &[u32], scale: &[u32], out: &[u32]) -> Result<(), Fault>
+fn check_operands<T: Words>(point: &[u32], scale: &[u32], out: &[u32]) -> Result<(), Fault>
     ensures { Tested
         (AreWhole T.coding point.now × IsOne T.coding scale.now × IsTable T.coding out.now)
         (element_count T.coding out.now ≡ 2 ^ element_count T.coding point.now)
@@ -68,7 +68,7 @@ pub fn equality_weights<R: PrimeCharacteristicRing + Words>(
 ) -> Result<(), Fault>
     ensures { Tabulates R.coding (λ p s. map (R.ring.product s) (weights_by order R.ring p)) point.now scale.now out.old out.new result }
 {
-    test::<R>(point, scale, out)?;
+    check_operands::<R>(point, scale, out)?;
     let table = table::<R>(alloc, order, point, scale, count_of::<R>(out))?;
     write(table.as_slice(), out);
     Ok(())

@@ -4,7 +4,7 @@
 //! call that it names, at its rings and lane width. A line of output names each case whose answer
 //! differs, and each that can't be read; the last one counts them.
 //!
-//! [`replay::replay`] is the whole program but for the streams. Stands on `mlu_replay_rings`, which answers a case.
+//! [`replay::replay`] is the whole program but for the streams.
 #![tactic(auto)]
 
 mod replay;

@@ -68,8 +68,8 @@ fn sixteen_lanes(op: &str, words: &mut Words<'_>) -> Result<String, Fault> {
     over_rings!(16, op, words)
 }
 
-// A function that names rings costs the check half a minute, whatever it does. Those below do so once
-// for all widths; for quartics over themselves the check would stop at its step limit.
+// Each function below names its rings once for all widths (docs/DECISIONS.md, "Tests"); for quartics
+// over themselves the check would stop at its step limit.
 
 /// Over the residues modulo a prime.
 fn residues<const W: usize>(op: &str, words: &mut Words<'_>) -> Result<String, Fault>
