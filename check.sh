@@ -1,7 +1,7 @@
 #!/usr/bin/env bash
 # The tests of the repository. First the calls that take memory, with the first, the second, ..
 # allocation of each refused, until none is refused any more, and the program on words that it does not
-# answer; then the merge gate, which proves every crate from nothing, tries the edits of
+# answer; then the gate, which proves every crate, tries the edits of
 # crates/*/must-fail, which must be refused, and runs the tests and the program.
 #
 # Then, where cargo is there and crates/mlu_c was built by rt lib, the tests of the package in bindings/rust.

@@ -8,7 +8,7 @@
  * Status. Each call tests the size of each operand (MLU_LENGTH), then whether the sizes fit one
  * another (MLU_ARITY), then the words that it reads (MLU_RESIDUE); then it asks malloc for memory
  * (MLU_MEMORY). It writes at the end alone: wherever the status is not MLU_DONE, each output is as
- * before. No sizes and no words are out of bounds for a call.
+ * before. A call may be made with any sizes and any words.
  *
  * What a caller owes. A pointer is aligned and has so many words behind it, which nothing else
  * writes during the call; an output overlaps no other operand. With no words the pointer is not
@@ -52,9 +52,9 @@ uint32_t mlu_eval_ext(const uint32_t *table, size_t table_len,
                       const uint32_t *point, size_t point_len,
                       uint32_t *out, size_t out_len);
 
-/* The sum of the values of a table over the base field, each times the weight at a point of the
- * vertex that it is the next of: the weight of x times value x + 1, and the last weight times the
- * last value. */
+/* The sum over all vertices of the weight at a point times the value at the next vertex, of a table
+ * over the base field: the weight of x times value x + 1, and the last weight times the last
+ * value. */
 uint32_t mlu_eval_next_base(const uint32_t *table, size_t table_len,
                             const uint32_t *point, size_t point_len,
                             uint32_t *out, size_t out_len);
