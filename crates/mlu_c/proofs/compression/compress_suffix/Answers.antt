@@ -6,14 +6,14 @@ use Rattle.mlu_c.proofs.compression.compress_suffix.Goals as goal
 
 pub compress_suffix-requires : goal.compress_suffix-requires
 compress_suffix-requires g c =
-    let tested = c.in_ok-test.ensures in
+    let tested = c.in_ok-check_operands.ensures in
     let left = element_count g.EF.Words.coding c.args.out.now in
     let rows : length c.in_ok-table.table ≡ 2 ^ length c.in_ok-table.point * left = c.in_ok-table.ensures.table_size ∙ tested.1 ∙ ap (λ n. 2 ^ n * left) (sym c.in_ok-table.ensures.point_size) in
     rows-within (length c.in_ok-table.table) (length c.in_ok-table.point) left rows tested.0.3.1
 
 pub write-requires : goal.write-requires
 write-requires g c =
-    let tested = c.in_ok-test.ensures in
+    let tested = c.in_ok-check_operands.ensures in
     let left = element_count g.EF.Words.coding c.args.out.now in
     let embed = g.EF.Algebra.embed in
     let rows : length c.in_ok-table.table ≡ 2 ^ length c.in_ok-table.point * left = c.in_ok-table.ensures.table_size ∙ tested.1 ∙ ap (λ n. 2 ^ n * left) (sym c.in_ok-table.ensures.point_size) in

@@ -6,7 +6,7 @@ use Rattle.mlu_c.proofs.folds.fix_suffix_var_mut.Goals as goal
 
 pub write-requires : goal.write-requires
 write-requires g c =
-    let tested = c.in_ok-test.ensures in
+    let tested = c.in_ok-check_operands.ensures in
     let words = c.args.words.now in
     let width = g.R.Words.coding.width in
     let entries = element_count g.R.Words.coding words in

@@ -7,7 +7,7 @@ use Rattle.mlu_c.proofs.sumcheck.sumcheck_verify.Goals as goal
 pub returns-in-None : goal.returns-in-None
 returns-in-None g c =
     let R = g.row.R.Denot in
-    let tested = c.in_ok-test_verify.ensures in
+    let tested = c.in_ok-check_verify.ensures in
     let rounds = triples (elements_of g.R.Words.coding c.args.rounds.now) in
     let challenges = elements_of g.R.Words.coding c.args.challenges.now in
     let none = rw c.in-None.is at c.in_ok-last.ensures in
