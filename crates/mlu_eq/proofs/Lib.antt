@@ -7,6 +7,7 @@ pub mod Folds
 pub mod Groups
 pub mod Halves
 pub mod Lengths
+pub mod Places
 pub mod Lines
 pub mod Moved
 pub mod Products

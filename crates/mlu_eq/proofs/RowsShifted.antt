@@ -11,7 +11,7 @@ use Rattle.mlu_ring.proofs.Shifted.{length-moved_up, pair-shifted}
 use Rattle.mlu_ring.proofs.Tabulated.{get_or-tabulate}
 use Rattle.mlu_ring.proofs.Totals.{pair-take}
 use Rattle.mlu_kernel.specs.Kernels.{dots_of_rows}
-use Rattle.mlu_kernel.proofs.Groups.{pair-take_more}
+use Rattle.mlu_ring.proofs.Groups.{pair-take_more}
 use Rattle.mlu_eq.proofs.Compressions.{back_of_dots}
 use Rattle.mlu_eq.proofs.Lengths.{positive_product}
 use Rattle.mlu_eq.proofs.Products.{row_end}

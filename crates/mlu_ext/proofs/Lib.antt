@@ -2,5 +2,6 @@
 pub mod Eleven
 pub mod Transposed
 pub mod QuarticSums
+pub mod QuarticDots
 pub mod QuarticLanes
 pub mod ProductLanes

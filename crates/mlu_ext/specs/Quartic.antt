@@ -39,6 +39,15 @@ quartic_product ring p q =
     let b = quartic_coefficients q in
     quartic (reduced ring a b 0) (reduced ring a b 1) (reduced ring a b 2) (reduced ring a b 3)
 
+-- a + b X + c X^2 + d X^3, where X^4 is 11
+abbrev pub by_powers : {R : Type 0} → Ring R → QuarticExtension R → QuarticExtension R → QuarticExtension R → QuarticExtension R → QuarticExtension R
+by_powers ring a b c d =
+    quartic
+    (ring.sum a.c0 (ring.product (eleven ring) (ring.sum (ring.sum b.c3 c.c2) d.c1)))
+    (ring.sum (ring.sum a.c1 b.c0) (ring.product (eleven ring) (ring.sum c.c3 d.c2)))
+    (ring.sum (ring.sum (ring.sum a.c2 b.c1) c.c0) (ring.product (eleven ring) d.c3))
+    (ring.sum (ring.sum (ring.sum a.c3 b.c2) c.c1) d.c0)
+
 abbrev pub quartic_ring : {R : Type 0} → Ring R → Ring (QuarticExtension R)
 quartic_ring ring = record {
   zero = constant ring.zero ring.zero;

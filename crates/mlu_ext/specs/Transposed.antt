@@ -2,14 +2,11 @@
 use Rattle.std.specs.Prelude.{◌≡◌, ◌<◌, ℕ, List, length, map, slice_index_or}
 use Rattle.std.proofs.Common.{sym, ap, ◌∙◌}
 use Rattle.std.proofs.lemmas.List.{ext_get_or, get_or-map, length-map}
+use Rattle.mlu_lanes.specs.Columns.{column_of}
 use Rattle.mlu_ring.specs.Lanes.{IsLists}
 use Rattle.mlu_ring.proofs.Tabulated.{tabulate, length-tabulate, get_or-tabulate, tabulate-entries}
 use Rattle.mlu_lanes.specs.LaneRing.{values_of, packed_of, lanes_are_lists}
 use Rattle.mlu_lanes.specs.declared.lanes.Lanes.{Lanes}
-
--- coefficient c of each element, where zero stands past the last
-abbrev pub column_of : {E F : Type 0} → F → (E → List F) → List E → ℕ → List F
-column_of zero coefficients xs c = map (λ x. slice_index_or (coefficients x) c zero) xs
 
 -- E has D coefficients in F, and P has D coefficients in the lanes of W elements of F
 pub record Layout (F E P : Type 0) (D W : ℕ) : Type 0 where

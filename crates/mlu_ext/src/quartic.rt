@@ -1,5 +1,6 @@
 //! Polynomials modulo X^4 - 11.
 mod algebra;
+mod dot;
 mod field;
 mod packed;
 mod ring;

@@ -1,5 +1,6 @@
 //! Worked values, a call of each item through its bound, and what `{:?}` prints.
 mod bounds;
+mod dots;
 mod products;
 mod rows;
 mod texts;

@@ -1,7 +1,7 @@
 pub mod DoubleSums
 pub mod Blocks
+pub mod LaneDots
 pub mod PlusRows
-pub mod Groups
 pub mod PackedCoefficients
 pub mod BasisDots
 pub mod Columns

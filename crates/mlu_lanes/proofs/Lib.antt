@@ -5,3 +5,4 @@ pub mod PlaceSums
 pub mod Prepared
 pub mod ResidueSums
 pub mod PackedSums
+pub mod HalvedSums

@@ -1,5 +1,6 @@
 -- The definitions of this crate, and the laws that its impls cite.
 pub mod LaneRing
+pub mod Columns
 pub mod Entrywise
 pub mod Residues
 pub mod BabyBear

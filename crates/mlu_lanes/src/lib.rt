@@ -7,11 +7,14 @@
 #![tactic(auto)]
 
 mod baby_bear;
+mod coefficients;
 mod lanes;
 mod sample;
 mod words;
 mod wrapping;
 
+pub use baby_bear::columns::column_times_rows;
 pub use baby_bear::{BabyBear, MODULUS};
+pub use coefficients::Coefficients;
 pub use lanes::{LaneWidth, Lanes};
 pub use wrapping::WrappingU64;

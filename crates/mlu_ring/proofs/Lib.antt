@@ -16,6 +16,7 @@ pub mod LanesLeft
 pub mod Rows
 pub mod Reversed
 pub mod Totals
+pub mod Groups
 pub mod RingMaps
 pub mod Folds
 pub mod PowersOfTwo

@@ -215,7 +215,8 @@ impl<F: Drop> IntoIterator for Poly<F> {
 
     type IntoIter = vec::IntoIter<F>;
 
-    ghost into_iter_gives = { λ v r. (into_iter_items r ≡ v) × EveryRun (into_iter_steps {X = F} {Z = Global}) (λ p. ItemsAre p (into_iter_items p.from)) };
+    ghost into_iter_gives = { λ v r. (into_iter_items r ≡ v)
+        × EveryRun (into_iter_steps {X = F} {Z = Global}) (λ p. ItemsAre p (into_iter_items p.from)) };
 
     fn into_iter(self) -> vec::IntoIter<F> {
         self.evals.into_iter()
@@ -227,7 +228,8 @@ impl<'a, F> IntoIterator for &'a Poly<F> {
 
     type IntoIter = slice::Iter<'a, F>;
 
-    ghost into_iter_gives = { λ poly r. (iter_rest r ≡ poly.now) × EveryRun (iter_steps {A = F}) (λ p. ItemsMapTo p (λ y. y.now) (iter_rest p.from)) };
+    ghost into_iter_gives = { λ poly r. (iter_rest r ≡ poly.now)
+        × EveryRun (iter_steps {A = F}) (λ p. ItemsMapTo p (λ y. y.now) (iter_rest p.from)) };
 
     fn into_iter(self) -> slice::Iter<'a, F> {
         self.evals.iter()

@@ -6,8 +6,7 @@ ghost use Rattle.mlu_ext.specs.Product.{entries_of, diagonal, diagonal_is_ring_m
 ghost use Rattle.mlu_ext.specs.ProductMaps.{product_map, product_map_is_ring_map};
 
 use super::ProductAlgebra;
-use crate::coefficients::Coefficients;
-use mlu_lanes::Lanes;
+use mlu_lanes::{Coefficients, Lanes};
 use mlu_ring::{
     Additive, Algebra, MapFrom, PrimeCharacteristicRing, RingMapFrom, Sample, SelfAlgebra,
 };

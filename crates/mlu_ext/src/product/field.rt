@@ -6,8 +6,7 @@ ghost use Rattle.mlu_ext.specs.Product.{entries_of, product_from, entries_are_li
 ghost use Rattle.mlu_ext.specs.ProductMaps.{product-diagonal_entries};
 
 use super::ProductAlgebra;
-use crate::coefficients::Coefficients;
-use mlu_lanes::{BabyBear, LaneWidth, Lanes};
+use mlu_lanes::{BabyBear, Coefficients, LaneWidth, Lanes};
 use mlu_ring::{ExtensionField, Field, Lanewise};
 
 impl<const W: usize, const D: usize> Lanewise for ProductAlgebra<BabyBear<W>, D> {

@@ -5,8 +5,8 @@ ghost use Rattle.mlu_ext.specs.Product.{entries_of, product_from, entries_are_li
 ghost use Rattle.mlu_ext.specs.ProductMaps.{product_elements, product_of_elements, product_elements_are_lists, product_elements_by_lane, product_elements-splat, product_elements-diagonal, product_transposed};
 
 use super::ProductAlgebra;
-use crate::coefficients::{Coefficients, column};
-use mlu_lanes::{BabyBear, LaneWidth, Lanes};
+use crate::coefficients::column;
+use mlu_lanes::{BabyBear, Coefficients, LaneWidth, Lanes};
 use mlu_ring::{Additive, PackedFieldExtension, PackedValue};
 
 impl<const W: usize, const D: usize> PackedFieldExtension<

@@ -8,8 +8,7 @@ ghost use Rattle.mlu_ext.specs.QuarticMaps.{quartic_splat_is_ring_map};
 
 use super::QuarticExtension;
 use super::ring::wrapped;
-use crate::coefficients::Coefficients;
-use mlu_lanes::Lanes;
+use mlu_lanes::{Coefficients, Lanes};
 use mlu_ring::{
     Additive, Algebra, MapFrom, PrimeCharacteristicRing, RingMapFrom, Sample, SelfAlgebra,
 };

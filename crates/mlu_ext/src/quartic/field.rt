@@ -6,8 +6,7 @@ ghost use Rattle.mlu_ext.specs.Quartic.{quartic_coefficients, quartic_of, quarti
 ghost use Rattle.mlu_ext.specs.QuarticMaps.{quartic_are_lists, product-constant_coefficients};
 
 use super::QuarticExtension;
-use crate::coefficients::Coefficients;
-use mlu_lanes::{BabyBear, LaneWidth, Lanes};
+use mlu_lanes::{BabyBear, Coefficients, LaneWidth, Lanes};
 use mlu_ring::{ExtensionField, Field, Lanewise, PackedValue, PrimeCharacteristicRing};
 use std::mem::size_of;
 

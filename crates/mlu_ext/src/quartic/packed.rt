@@ -6,8 +6,8 @@ ghost use Rattle.mlu_ext.specs.QuarticPacked.{quartic_elements, quartic_of_eleme
 ghost use Rattle.mlu_ext.specs.QuarticMaps.{quartic_are_lists};
 
 use super::QuarticExtension;
-use crate::coefficients::{Coefficients, column};
-use mlu_lanes::{BabyBear, LaneWidth, Lanes};
+use crate::coefficients::column;
+use mlu_lanes::{BabyBear, Coefficients, LaneWidth, Lanes};
 use mlu_ring::{PackedFieldExtension, PackedValue};
 
 impl<const W: usize> PackedFieldExtension<BabyBear<W>, QuarticExtension<BabyBear<W>>>

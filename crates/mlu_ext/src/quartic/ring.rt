@@ -1,7 +1,7 @@
 //! The ring of the polynomials: sums by coefficients, products modulo X^4 - 11.
 ghost use Rattle.std.specs.Prelude.{◌≡◌};
 ghost use Rattle.mlu_ext.specs.Eleven.{eleven};
-ghost use Rattle.mlu_ext.specs.Quartic.{constant, quartic_ring, Coefficientwise, CoefficientwisePair, CoefficientwiseTriple};
+ghost use Rattle.mlu_ext.specs.Quartic.{by_powers, constant, quartic, quartic_ring, Coefficientwise, CoefficientwisePair, CoefficientwiseTriple};
 ghost use Rattle.mlu_ext.specs.QuarticLaws.{quartic_laws, quartic_same, quartic_eq, constant_two, constant_neg_one, coefficients_by, coefficients_each_by};
 
 use super::QuarticExtension;
@@ -183,12 +183,7 @@ impl<R: PrimeCharacteristicRing> PrimeCharacteristicRing for QuarticExtension<R>
         let linear = R::row_times_columns(&(l.0.c1, l.1.c1, l.2.c1, l.3.c1), &c0, &c1, &c2, &c3);
         let quadratic = R::row_times_columns(&(l.0.c2, l.1.c2, l.2.c2, l.3.c2), &c0, &c1, &c2, &c3);
         let cubic = R::row_times_columns(&(l.0.c3, l.1.c3, l.2.c3, l.3.c3), &c0, &c1, &c2, &c3);
-        QuarticExtension {
-            c0: constant.0 + times_eleven(linear.3 + quadratic.2 + cubic.1),
-            c1: constant.1 + linear.0 + times_eleven(quadratic.3 + cubic.2),
-            c2: constant.2 + linear.1 + quadratic.0 + times_eleven(cubic.3),
-            c3: constant.3 + linear.2 + quadratic.1 + cubic.0,
-        }
+        joined_powers(constant, linear, quadratic, cubic)
     }
 
     ghost can_mul_law = { λ a b. tt };
@@ -198,6 +193,25 @@ impl<R: PrimeCharacteristicRing> PrimeCharacteristicRing for QuarticExtension<R>
     ghost two_is = { constant_two R.ring R.Additive.laws R.zero_is R.two_is };
 
     ghost neg_one_is = { constant_neg_one R.ring R.Additive.laws R.zero_is R.neg_one_is };
+}
+
+/// `constant + linear X + quadratic X^2 + cubic X^3`, each given by its coefficients.
+#[inline(always)]
+pub(super) fn joined_powers<R: Additive>(
+    constant: (R, R, R, R),
+    linear: (R, R, R, R),
+    quadratic: (R, R, R, R),
+    cubic: (R, R, R, R),
+) -> QuarticExtension<R>
+    ensures { result ≡ by_powers R.ring (quartic constant.0 constant.1 constant.2 constant.3) (quartic linear.0 linear.1 linear.2 linear.3)
+        (quartic quadratic.0 quadratic.1 quadratic.2 quadratic.3) (quartic cubic.0 cubic.1 cubic.2 cubic.3) }
+{
+    QuarticExtension {
+        c0: constant.0 + times_eleven(linear.3 + quadratic.2 + cubic.1),
+        c1: constant.1 + linear.0 + times_eleven(quadratic.3 + cubic.2),
+        c2: constant.2 + linear.1 + quadratic.0 + times_eleven(cubic.3),
+        c3: constant.3 + linear.2 + quadratic.1 + cubic.0,
+    }
 }
 
 /// What the coefficients of X, X^2 and X^3 become where their powers wrap: eleven times as much.

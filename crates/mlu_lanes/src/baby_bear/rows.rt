@@ -49,7 +49,7 @@ pub fn sum_of_prepared_rows<const W: usize>(
 
 /// The sums of the products, as integers.
 #[inline(always)]
-fn unreduced_rows<const W: usize>(
+pub fn unreduced_rows<const W: usize>(
     l: &(BabyBear<W>, BabyBear<W>, BabyBear<W>, BabyBear<W>),
     rows: &(Simd<u32, 4>, Simd<u32, 4>, Simd<u32, 4>, Simd<u32, 4>),
 ) -> Simd<u64, 4>

@@ -58,7 +58,8 @@ impl<F: Field, EF: ExtensionField<F>> PackedEvaluator<F, F, EF> for EmbeddedCoor
         <EF::ExtensionPacking as Algebra<F::Packing>>::scale(share, splat)
     }
 
-    ghost in_every_lane = { lanes-of_splat F.Packing.WIDTH F.Packing.lanes F.Packing.of_lanes F.Packing.lanes_are EF.ExtensionPacking.ext_lanes ⟦<EF::ExtensionPacking as Algebra<F::Packing>>⟧.embed EF.embed EF.ExtensionPacking.embeds_packing };
+    ghost in_every_lane = { lanes-of_splat F.Packing.lanes_are EF.ExtensionPacking.ext_lanes
+        ⟦<EF::ExtensionPacking as Algebra<F::Packing>>⟧.embed EF.embed EF.ExtensionPacking.embeds_packing };
 }
 
 /// The evaluator of the packed shares.

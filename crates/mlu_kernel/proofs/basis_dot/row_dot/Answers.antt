@@ -1,7 +1,7 @@
 use Rattle.std.proofs.Common.{◌≡◌, ◌+◌, ◌*◌, ◌-◌, ◌/◌, ◌<◌, ◌∙◌, ap, sym, refl, length, take, arith}
 use Rattle.mlu_ring.specs.Tables.{pair}
 use Rattle.mlu_ring.proofs.Totals.{pair-nil}
-use Rattle.mlu_kernel.proofs.Groups.{pair-take_more, pair-take_four_more}
+use Rattle.mlu_ring.proofs.Groups.{pair-take_more, pair-take_four_more}
 use Rattle.mlu_kernel.proofs.basis_dot.row_dot.Goals as goal
 
 pub loop-g-init : goal.loop-g-init

@@ -1,11 +1,10 @@
-use Rattle.std.proofs.Common.{◌≤◌, ◌∙◌, map, length, ap, sym}
+use Rattle.std.proofs.Common.{◌≤◌, ◌∙◌, map, length, ap}
 use Rattle.std.proofs.lemmas.List.{take_all}
 use Rattle.mlu_ring.specs.Lanes.{logical}
-use Rattle.mlu_ring.specs.Sums.{sum_of}
 use Rattle.mlu_ring.specs.Tables.{pair}
 use Rattle.mlu_ring.proofs.Rows.{row-ends, length-row_at}
-use Rattle.mlu_ring.proofs.Totals.{pair-nil, total-zero, total-dot_more}
 use Rattle.mlu_kernel.proofs.Blocks.{block-embedded}
+use Rattle.mlu_kernel.proofs.LaneDots.{no_weight, one_more_weight}
 use Rattle.mlu_kernel.proofs.one_row.row_dot_in_lanes.Goals as goal
 
 pub row_of_width-requires : goal.row_of_width-requires
@@ -16,26 +15,22 @@ load-block-requires g c = ap length c.row_of_width.ensures ∙ length-row_at _ _
 
 pub loop-i-init : goal.loop-i-init
 loop-i-init g c =
-    let ring = g.EF.Additive.ring in
-    let laws = g.met.EF.Additive.laws in
-    let packed = g.EF.ExtensionPacking.PackedFieldExtension in
+    let ext = g.EF.ExtensionPacking.PackedFieldExtension in
     let met = g.met.EF.ExtensionPacking.PackedFieldExtension in
-    ap (λ p. sum_of ring (packed.ext_lanes p)) (c.ZERO-sum.ensures ∙ g.met.EF.ExtensionPacking.Additive.zero_is)
-    ∙ total-zero g.EF.ExtensionPacking.Additive.ring ring laws packed.ext_lanes packed.of_ext_lanes g.F.Packing.PackedValue.WIDTH met.lanes_are met.lane_by_lane
-    ∙ sym (pair-nil ring laws (map g.EF.Algebra.embed c.args.row.now))
+    no_weight g.EF.ExtensionPacking.Additive.ring g.EF.Additive.ring g.met.EF.Additive.laws ext.ext_lanes ext.of_ext_lanes g.F.Packing.PackedValue.WIDTH met.lanes_are met.lane_by_lane
+    c.ZERO-sum.result (map g.EF.Algebra.embed c.args.row.now) (c.ZERO-sum.ensures ∙ g.met.EF.ExtensionPacking.Additive.zero_is)
 
 pub loop-i-preserved : goal.loop-i-preserved
 loop-i-preserved g c =
-    let ring = g.EF.Additive.ring in
-    let packed = g.EF.ExtensionPacking.PackedFieldExtension in
+    let ext = g.EF.ExtensionPacking.PackedFieldExtension in
     let met = g.met.EF.ExtensionPacking.PackedFieldExtension in
-    let added = g.met.EF.ExtensionPacking.Additive.adds c.loop-i.sum c.scale_by_packing.result c.add-sum.result c.add-sum.ensures in
-    let block = block-embedded g.EF.Algebra.embed c.args.row.now c.loop-i.i c.WIDTH.result g.F.Packing.PackedValue.WIDTH c.row_of_width.result.now (g.F.Packing.PackedValue.lanes c.load-block.result) (packed.ext_lanes (g.EF.ExtensionPacking.Algebra-2.embed c.load-block.result))
+    let q = g.EF.ExtensionPacking.Algebra-2.embed c.load-block.result in
+    let block = block-embedded g.EF.Algebra.embed c.args.row.now c.loop-i.i c.WIDTH.result g.F.Packing.PackedValue.WIDTH c.row_of_width.result.now (g.F.Packing.PackedValue.lanes c.load-block.result) (ext.ext_lanes q)
     (met.embeds_packing c.load-block.result) c.load-block.ensures c.row_of_width.ensures c.WIDTH.ensures in
-    ap (λ p. sum_of ring (packed.ext_lanes p)) (added ∙ ap (g.EF.ExtensionPacking.Additive.ring.sum c.loop-i.sum) c.scale_by_packing.ensures)
-    ∙ total-dot_more g.EF.ExtensionPacking.Additive.ring ring g.met.EF.Additive.laws packed.ext_lanes packed.of_ext_lanes g.F.Packing.PackedValue.WIDTH met.lanes_are met.lane_by_lane
-    c.loop-i.sum c.index-weights-i.result (g.EF.ExtensionPacking.Algebra-2.embed c.load-block.result) c.args.weights.now (map g.EF.Algebra.embed c.args.row.now) c.loop-i.i
-    c.loop-i-test.true c.index-weights-i.is block c.loop-i.invariant
+    one_more_weight g.EF.ExtensionPacking.Additive.ring g.EF.Additive.ring g.met.EF.Additive.laws ext.ext_lanes ext.of_ext_lanes g.F.Packing.PackedValue.WIDTH met.lanes_are met.lane_by_lane
+    c.loop-i.sum c.index-weights-i.result q c.scale_by_packing.result c.add-sum.result c.args.weights.now (map g.EF.Algebra.embed c.args.row.now) c.loop-i.i
+    c.loop-i-test.true c.index-weights-i.is block c.scale_by_packing.ensures
+    (g.met.EF.ExtensionPacking.Additive.adds _ _ _ c.add-sum.ensures) c.loop-i.invariant
 
 pub returns : goal.returns
 returns g c =

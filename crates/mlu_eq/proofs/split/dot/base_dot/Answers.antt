@@ -3,7 +3,7 @@ use Rattle.std.proofs.lemmas.List.{length-map, take_all}
 use Rattle.mlu_ring.specs.Tables.{pair}
 use Rattle.mlu_ring.proofs.Pairs.{read-map}
 use Rattle.mlu_ring.proofs.Totals.{pair-nil}
-use Rattle.mlu_kernel.proofs.Groups.{pair-take_more}
+use Rattle.mlu_ring.proofs.Groups.{pair-take_more}
 use Rattle.mlu_eq.proofs.split.dot.base_dot.Goals as goal
 
 pub loop-i-init : goal.loop-i-init

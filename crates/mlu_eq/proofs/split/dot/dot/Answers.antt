@@ -2,7 +2,7 @@ use Rattle.std.proofs.Common.{◌≡◌, ◌+◌, ◌*◌, ◌<◌, ◌∙◌, l
 use Rattle.std.proofs.lemmas.List.{take_all}
 use Rattle.mlu_ring.specs.Tables.{pair}
 use Rattle.mlu_ring.proofs.Totals.{pair-nil}
-use Rattle.mlu_kernel.proofs.Groups.{pair-take_more, pair-take_four_more}
+use Rattle.mlu_ring.proofs.Groups.{pair-take_more, pair-take_four_more}
 use Rattle.mlu_eq.proofs.split.dot.dot.Goals as goal
 
 pub loop-g-init : goal.loop-g-init

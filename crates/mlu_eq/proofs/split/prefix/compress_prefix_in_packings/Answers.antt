@@ -1,11 +1,11 @@
 use Rattle.std.proofs.Common.{◌≡◌, ◌*◌, ◌/◌, ◌≤◌, ◌∙◌, length, map, take, replicate, ap, sym, subst}
 use Rattle.std.specs.Simd.Lanes.{zip2}
-use Rattle.std.proofs.lemmas.List.{length-replicate, length-take-le, take-replicate}
 use Rattle.mlu_ring.specs.Lanes.{logical}
 use Rattle.mlu_ring.proofs.Logical.{logical-replicate}
 use Rattle.mlu_ring.proofs.Rings.{map-one}
 use Rattle.mlu_kernel.specs.Kernels.{plus_rows}
 use Rattle.mlu_eq.specs.Split.{contents}
+use Rattle.mlu_eq.proofs.Places.{zero_places, length-places}
 use Rattle.mlu_eq.proofs.Runs.{plus_rows-from_zeros}
 use Rattle.mlu_eq.proofs.split.prefix.compress_prefix_in_packings.Goals as goal
 
@@ -14,8 +14,7 @@ compress_prefix_to_packed_into-requires g c =
     let width = g.F.Packing.PackedValue.WIDTH in
     let m = length c.args.out.now in
     let few = subst (λ k. m / k ≤ g.row.N) (sym c.WIDTH.ensures) c.requires.few in
-    let places = replicate g.row.N c.ZERO-places.result in
-    let long = length-take-le (m / c.WIDTH.result) places (subst (λ k. m / c.WIDTH.result ≤ k) (sym (length-replicate g.row.N c.ZERO-places.result)) few) in
+    let long = length-places g.row.N (m / c.WIDTH.result) c.ZERO-places.result few in
     let whole = c.requires.whole ∙ ap (λ k. m / k * width) (sym c.WIDTH.ensures) in
     c.requires.size ∙ ap (λ k. length c.args.eq0.now * (length c.args.eq1.now.weights * k)) (whole ∙ ap (λ k. k * width) (sym long))
 
@@ -31,11 +30,11 @@ returns g c =
     let e = map g.EF.Algebra.embed c.args.entries.now in
     let lanes = logical ext.ext_lanes in
     let places = replicate g.row.N c.ZERO-places.result in
-    let zero = ap ext.ext_lanes (c.ZERO-places.ensures ∙ g.met.EF.ExtensionPacking.Additive.zero_is) ∙ met.lane_by_lane.zero in
+    let zero = g.EF.ExtensionPacking.Additive.ring.zero in
     let empty : lanes (take (length old / c.WIDTH.result) places) ≡ replicate (length old) ring.zero =
     ap (λ k. lanes (take (length old / k) places)) c.WIDTH.ensures
-    ∙ ap lanes (take-replicate (length old / width) g.row.N c.ZERO-places.result c.requires.few)
-    ∙ logical-replicate ext.ext_lanes width (length old / width) c.ZERO-places.result ring.zero zero
+    ∙ ap lanes (zero_places g.row.N (length old / width) c.ZERO-places.result c.requires.few zero (c.ZERO-places.ensures ∙ g.met.EF.ExtensionPacking.Additive.zero_is))
+    ∙ logical-replicate ext.ext_lanes width (length old / width) zero ring.zero met.lane_by_lane.zero
     ∙ ap (λ k. replicate k ring.zero) (sym c.requires.whole) in
     let one = c.ONE.ensures ∙ g.met.EF.Additive.one_is in
     let sums = lanes c.compress_prefix_to_packed_into.new.out in

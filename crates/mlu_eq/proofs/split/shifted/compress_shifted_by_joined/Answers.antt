@@ -1,23 +1,22 @@
-use Rattle.std.proofs.Common.{◌<◌, ◌≤◌, ◌-◌, ◌*◌, ◌∙◌, length, map, replicate, ap, sym, subst, arith}
+use Rattle.std.proofs.Common.{◌<◌, ◌-◌, ◌*◌, ◌∙◌, length, map, ap, sym, subst, arith}
 use Rattle.std.proofs.Math.Nat.{mul_assoc}
-use Rattle.std.proofs.lemmas.List.{length-replicate, length-take-le, take-replicate}
 use Rattle.mlu_ring.specs.Successor.{shifted}
 use Rattle.mlu_ring.specs.Tables.{back}
 use Rattle.mlu_eq.proofs.Lengths.{some_values}
+use Rattle.mlu_eq.proofs.Places.{zero_places, length-places}
 use Rattle.mlu_eq.proofs.split.shifted.compress_shifted_by_joined.Goals as goal
 
 pub join_halves-requires : goal.join_halves-requires
 join_halves-requires g c =
     let n = length c.args.eq0.now * length c.args.weights.now in
-    take-replicate n 128 c.ZERO-places.result c.requires.few
-    ∙ ap (replicate n) (c.ZERO-places.ensures ∙ g.met.EF.ExtensionPacking.Additive.zero_is)
+    let zero = g.EF.ExtensionPacking.Additive.ring.zero in
+    zero_places 128 n c.ZERO-places.result c.requires.few zero (c.ZERO-places.ensures ∙ g.met.EF.ExtensionPacking.Additive.zero_is)
 
 pub compress_shifted_by_packed-requires-clause-some : goal.compress_shifted_by_packed-requires-clause-some
 compress_shifted_by_packed-requires-clause-some g c =
     let width = g.F.Packing.PackedValue.WIDTH in
-    let places = replicate 128 c.ZERO-places.result in
     let n = length c.args.eq0.now * length c.args.weights.now in
-    let long = c.join_halves.auto.joined ∙ length-take-le n places (subst (λ k. n ≤ k) (sym (length-replicate 128 c.ZERO-places.result)) c.requires.few) in
+    let long = c.join_halves.auto.joined ∙ length-places 128 n c.ZERO-places.result c.requires.few in
     let some = subst (λ k. 0 < k) (sym (mul_assoc (length c.args.eq0.now) (length c.args.weights.now) width)) c.requires.some in
     subst (λ k. 0 < k) (sym long) (some_values n width (n * width - 1) (omega (arith, some)))
 
@@ -25,9 +24,8 @@ pub compress_shifted_by_packed-requires-clause-size : goal.compress_shifted_by_p
 compress_shifted_by_packed-requires-clause-size g c =
     let m = length c.args.out.now in
     let width = g.F.Packing.PackedValue.WIDTH in
-    let places = replicate 128 c.ZERO-places.result in
     let n = length c.args.eq0.now * length c.args.weights.now in
-    let long = c.join_halves.auto.joined ∙ length-take-le n places (subst (λ k. n ≤ k) (sym (length-replicate 128 c.ZERO-places.result)) c.requires.few) in
+    let long = c.join_halves.auto.joined ∙ length-places 128 n c.ZERO-places.result c.requires.few in
     c.requires.size
     ∙ ap (λ k. m * k) (sym (mul_assoc (length c.args.eq0.now) (length c.args.weights.now) width))
     ∙ ap (λ k. m * (k * width)) (sym long)

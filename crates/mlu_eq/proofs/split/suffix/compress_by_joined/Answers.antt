@@ -1,6 +1,6 @@
-use Rattle.std.proofs.Common.{◌<◌, ◌≤◌, ◌*◌, ◌∙◌, length, map, replicate, ap, sym, subst}
+use Rattle.std.proofs.Common.{◌<◌, ◌*◌, ◌∙◌, length, map, ap, sym, subst}
 use Rattle.std.proofs.Math.Nat.{mul_assoc}
-use Rattle.std.proofs.lemmas.List.{length-map, length-replicate, length-take-le, take-replicate}
+use Rattle.std.proofs.lemmas.List.{length-map}
 use Rattle.mlu_ring.specs.Lanes.{logical}
 use Rattle.mlu_ring.specs.Matrices.{row_at}
 use Rattle.mlu_ring.specs.Tables.{pair}
@@ -10,21 +10,21 @@ use Rattle.mlu_kernel.specs.Kernels.{dots_of_rows}
 use Rattle.mlu_eq.specs.Split.{contents}
 use Rattle.mlu_eq.proofs.Compressions.{back_of_dots}
 use Rattle.mlu_eq.proofs.Contents.{length-contents}
+use Rattle.mlu_eq.proofs.Places.{zero_places, length-places}
 use Rattle.mlu_eq.proofs.split.suffix.compress_by_joined.Goals as goal
 
 pub join_halves-requires : goal.join_halves-requires
 join_halves-requires g c =
     let n = length c.args.eq0.now * length c.args.weights.now in
-    take-replicate n 128 c.ZERO-places.result c.requires.few
-    ∙ ap (replicate n) (c.ZERO-places.ensures ∙ g.met.EF.ExtensionPacking.Additive.zero_is)
+    let zero = g.EF.ExtensionPacking.Additive.ring.zero in
+    zero_places 128 n c.ZERO-places.result c.requires.few zero (c.ZERO-places.ensures ∙ g.met.EF.ExtensionPacking.Additive.zero_is)
 
 pub row_dots-requires : goal.row_dots-requires
 row_dots-requires g c =
     let m = length c.args.out.now in
     let width = g.F.Packing.PackedValue.WIDTH in
-    let places = replicate 128 c.ZERO-places.result in
     let n = length c.args.eq0.now * length c.args.weights.now in
-    let long = c.join_halves.auto.joined ∙ length-take-le n places (subst (λ k. n ≤ k) (sym (length-replicate 128 c.ZERO-places.result)) c.requires.few) in
+    let long = c.join_halves.auto.joined ∙ length-places 128 n c.ZERO-places.result c.requires.few in
     c.requires.size
     ∙ ap (λ k. m * k) (sym (mul_assoc (length c.args.eq0.now) (length c.args.weights.now) width))
     ∙ ap (λ k. m * (k * width)) (sym long)
