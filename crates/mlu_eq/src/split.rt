@@ -14,5 +14,5 @@ mod suffix;
 pub use accumulate::{accumulate_into, accumulate_into_packed};
 pub use dot::{dot_base, dot_ext, dot_packed};
 pub use prefix::{compress_prefix_into, compress_prefix_to_packed_into};
-pub use shifted::{compress_prefix_shifted_into, compress_suffix_shifted_into, dot_base_shifted};
-pub use suffix::compress_suffix_into;
+pub use shifted::{compress_prefix_shifted_into, dot_base_shifted};
+pub use suffix::{compress_suffix_into, compress_suffix_shifted_into};

@@ -1,13 +1,13 @@
 -- Sums of products of polynomials, by the sums of the products of their coefficients.
-use Rattle.std.specs.Prelude.{◌≡◌, ℕ, List, [], ◌∷◌, length, map}
+use Rattle.std.specs.Prelude.{◌≡◌, ℕ, List, [], ◌∷◌, length}
 use Rattle.std.proofs.Common.{sym, ◌∙◌, arith}
 use Rattle.mlu_lanes.specs.Columns.{column_of}
 use Rattle.mlu_ring.specs.Ring.{Ring, RingLaws}
 use Rattle.mlu_ring.specs.Tables.{pair}
-use Rattle.mlu_ring.proofs.Rings.{product_zero, zero_product, product_left_comm, sum_left_comm, sum_zero}
+use Rattle.mlu_ring.proofs.Rings.{product_zero, product_left_comm, sum_left_comm, sum_zero}
 use Rattle.mlu_ring.proofs.Totals.{pair-nil, pair-cons}
 use Rattle.mlu_ext.specs.Eleven.{eleven}
-use Rattle.mlu_ext.specs.Quartic.{quartic_coefficients, quartic, constant, by_powers, quartic_ring}
+use Rattle.mlu_ext.specs.Quartic.{quartic_coefficients, quartic, by_powers, by_powers_where, quartic_ring}
 use Rattle.mlu_ext.specs.QuarticLaws.{quartic_same, product-written, written, quartic_laws}
 use Rattle.mlu_ext.specs.declared.quartic.QuarticExtension.{QuarticExtension}
 
@@ -16,14 +16,8 @@ module _ {R : Type 0} (ring : Ring R) (laws : RingLaws ring) where
   infixl 60 ◌⊗◌
   open ring use {sum as ◌⊕◌, product as ◌⊗◌, zero as 𝟘}
 
-  -- a + b X + c X^2 + d X^3, where X^4 is w
   abbrev powers : (w : R) (a b c d : QuarticExtension R) → QuarticExtension R
-  powers w a b c d =
-      quartic
-      (a.c0 ⊕ (w ⊗ (b.c3 ⊕ c.c2 ⊕ d.c1)))
-      (a.c1 ⊕ b.c0 ⊕ (w ⊗ (c.c3 ⊕ d.c2)))
-      (a.c2 ⊕ b.c1 ⊕ c.c0 ⊕ (w ⊗ d.c3))
-      (a.c3 ⊕ b.c2 ⊕ c.c1 ⊕ d.c0)
+  powers = by_powers_where ring
 
   abbrev scaled : R → QuarticExtension R → QuarticExtension R
   scaled x y = quartic (x ⊗ y.c0) (x ⊗ y.c1) (x ⊗ y.c2) (x ⊗ y.c3)
@@ -103,25 +97,3 @@ module _ {R : Type 0} (ring : Ring R) (laws : RingLaws ring) where
       → by_powers ring a b c d ≡ pair (quartic_ring ring) l r
   joined-dot l r a b c d h first second third fourth =
       (λ i. by_powers ring (first i) (second i) (third i) (fourth i)) ∙ sym (dot-powers l r h)
-
-  constant-scaled : (x : R) (y : QuarticExtension R) → scaled x y ≡ (quartic_ring ring).product y (constant 𝟘 x)
-  constant-scaled x y =
-      quartic_same
-      (simp (zero_product ring laws, product_zero ring laws, sum_zero ring laws, laws.product_comm x y.c0))
-      (simp (zero_product ring laws, product_zero ring laws, sum_zero ring laws, laws.zero_sum, laws.product_comm x y.c1))
-      (simp (zero_product ring laws, product_zero ring laws, sum_zero ring laws, laws.zero_sum, laws.product_comm x y.c2))
-      (simp (zero_product ring laws, product_zero ring laws, sum_zero ring laws, laws.zero_sum, laws.product_comm x y.c3))
-      ∙ sym (product-written ring laws y (constant 𝟘 x))
-
-  -- with constants on the right, each coefficient for itself
-  pub constant-dot : (xs : List R) (r : List (QuarticExtension R)) → length xs ≡ length r
-      → column_times xs r ≡ pair (quartic_ring ring) r (map (constant 𝟘) xs)
-  constant-dot [] [] h = sym (column_times-nil []) ∙ sym (pair-nil (quartic_ring ring) (quartic_laws ring laws) [])
-  constant-dot [] (y ∷ r) h = absurd (omega arith)
-  constant-dot (x ∷ xs) [] h = absurd (omega arith)
-  constant-dot (x ∷ xs) (y ∷ r) h =
-      let first = constant-scaled x y in
-      let others = constant-dot xs r (omega arith) in
-      sym (column_times-cons x y xs r)
-      ∙ (λ i. (quartic_ring ring).sum (first i) (others i))
-      ∙ sym (pair-cons (quartic_ring ring) (quartic_laws ring laws) y (constant 𝟘 x) r (map (constant 𝟘) xs))

@@ -13,6 +13,9 @@ quartic_coefficients a = a.c0 ∷ a.c1 ∷ a.c2 ∷ a.c3 ∷ []
 abbrev pub quartic : {R : Type 0} → R → R → R → R → QuarticExtension R
 quartic a b c d = record { c0 = a; c1 = b; c2 = c; c3 = d }
 
+abbrev pub of_four : {R : Type 0} → R × R × R × R → QuarticExtension R
+of_four t = quartic t.0 t.1 t.2 t.3
+
 -- the constant x, where z is zero
 abbrev pub constant : {R : Type 0} → R → R → QuarticExtension R
 constant z x = quartic x z z z
@@ -39,14 +42,18 @@ quartic_product ring p q =
     let b = quartic_coefficients q in
     quartic (reduced ring a b 0) (reduced ring a b 1) (reduced ring a b 2) (reduced ring a b 3)
 
--- a + b X + c X^2 + d X^3, where X^4 is 11
-abbrev pub by_powers : {R : Type 0} → Ring R → QuarticExtension R → QuarticExtension R → QuarticExtension R → QuarticExtension R → QuarticExtension R
-by_powers ring a b c d =
+-- a + b X + c X^2 + d X^3, where X^4 is w
+abbrev pub by_powers_where : {R : Type 0} → Ring R → (w : R) (a b c d : QuarticExtension R) → QuarticExtension R
+by_powers_where ring w a b c d =
     quartic
-    (ring.sum a.c0 (ring.product (eleven ring) (ring.sum (ring.sum b.c3 c.c2) d.c1)))
-    (ring.sum (ring.sum a.c1 b.c0) (ring.product (eleven ring) (ring.sum c.c3 d.c2)))
-    (ring.sum (ring.sum (ring.sum a.c2 b.c1) c.c0) (ring.product (eleven ring) d.c3))
+    (ring.sum a.c0 (ring.product w (ring.sum (ring.sum b.c3 c.c2) d.c1)))
+    (ring.sum (ring.sum a.c1 b.c0) (ring.product w (ring.sum c.c3 d.c2)))
+    (ring.sum (ring.sum (ring.sum a.c2 b.c1) c.c0) (ring.product w d.c3))
     (ring.sum (ring.sum (ring.sum a.c3 b.c2) c.c1) d.c0)
+
+-- the same where X^4 is 11
+abbrev pub by_powers : {R : Type 0} → Ring R → (a b c d : QuarticExtension R) → QuarticExtension R
+by_powers ring = by_powers_where ring (eleven ring)
 
 abbrev pub quartic_ring : {R : Type 0} → Ring R → Ring (QuarticExtension R)
 quartic_ring ring = record {

@@ -1,6 +1,5 @@
 //! Polynomials modulo X^4 - 11.
 mod algebra;
-mod dot;
 mod field;
 mod packed;
 mod ring;

@@ -1,5 +1,9 @@
--- Four lists side by side.
+-- Four values, and four lists side by side.
 use Rattle.std.specs.Prelude.{◌≡◌, ℕ, List, [], ◌∷◌, length, slice_index_or}
+
+-- the four as a list
+abbrev pub in_order : {A : Type 0} → A × A × A × A → List A
+in_order t = t.0 ∷ t.1 ∷ t.2 ∷ t.3 ∷ []
 
 -- each of the four has n entries
 abbrev pub AreLong : {A : Type 0} → ℕ → List A → List A → List A → List A → Type 0

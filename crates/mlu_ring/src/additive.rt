@@ -1,8 +1,10 @@
 //! Rings as far as their sums go: addition, subtraction and negation.
-ghost use Rattle.std.specs.Prelude.{◌≡◌, ◌↔◌, IsTrue, length};
+ghost use Rattle.std.specs.Prelude.{◌≡◌, ◌↔◌, IfOk, IsOk, IsTrue, length, replicate};
 ghost use Rattle.std.specs.Simd.Lanes.{zip2};
+ghost use Rattle.std.specs.Vec.{vec_capacity};
 ghost use Rattle.mlu_ring.specs.Ring.{Ring, RingLaws};
 
+use std::alloc::{AllocError, Global};
 use std::ops::{Add, Neg, Sub};
 
 /// Elements of a commutative ring that can be added, without a call that multiplies.
@@ -64,4 +66,20 @@ pub trait Additive: Copy
     ghost can_neg_law: { (a : Self) → Self.can_neg a };
 
     ghost negates: { (a r : Self) → Self.neg_gives a r → r ≡ ring.negation a };
+}
+
+/// `len` zeros, in one allocation of exactly that many elements.
+///
+/// # Errors
+/// Where memory is refused; never where `len` is 0.
+pub fn zeros<R: Additive>(alloc: Global, len: usize) -> Result<Vec<R>, AllocError>
+    ensures zeros { IfOk result (λ zeros. zeros.items ≡ replicate len R.ring.zero) }
+    ensures exact { IfOk result (λ zeros. vec_capacity zeros ≡ len) }
+    ensures none { len ≡ 0 → IsOk result }
+{
+    let mut zeros = Vec::with_capacity(alloc, len)?;
+    for _ in 0..len {
+        zeros.push_reserved(R::ZERO);
+    }
+    Ok(zeros)
 }

@@ -1,4 +1,4 @@
-//! Rings with a packed form, and sums of four products in them.
+//! Rings with a packed form, and sums of products in them.
 ghost use Rattle.std.specs.Prelude.{◌≡◌, ◌<◌, ◌^◌, ℕ, length, map};
 ghost use Rattle.mlu_ring.specs.Lanes.{splat_of};
 ghost use Rattle.mlu_ring.specs.Tables.{pair};
@@ -13,6 +13,21 @@ pub trait Field: Lanewise + PrimeCharacteristicRing {
     /// The bytes of one element, as the implementation states them.
     fn bytes() -> usize
         ensures { result ≡ bytes_of };
+
+    /// The sum of the products `l[i] * r[i]`. Asks for slices of one length.
+    ///
+    /// A ring that can add its products up before it reduces them has a body of its own.
+    #[inline]
+    fn dot(l: &[Self], r: &[Self]) -> Self
+        requires { length l.now ≡ length r.now }
+        ensures { result ≡ pair Self.ring l.now r.now }
+    {
+        let mut sum = Self::ZERO;
+        for i in 0..l.len() {
+            sum = sum + l[i] * r[i];
+        }
+        sum
+    }
 
     /// The products, lane by lane.
     fn lanes_mul(a: Self::Packing, b: Self::Packing) -> Self::Packing

@@ -25,7 +25,7 @@ mod row;
 mod sample;
 mod tally;
 
-pub use additive::Additive;
+pub use additive::{Additive, zeros};
 pub use affine::AffineInEach;
 pub use algebra::{Algebra, SelfAlgebra};
 pub use conversion::{MapFrom, RingMapFrom};

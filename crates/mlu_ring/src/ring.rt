@@ -1,10 +1,10 @@
 //! Commutative rings with one.
-ghost use Rattle.std.specs.Prelude.{◌≡◌, ◌∷◌, [], ℕ, ◌<◌, IfOk, IsOk, if◌then◌else◌, replicate, length, slice_index_or};
-ghost use Rattle.mlu_ring.specs.Fours.{AreLong, places};
+ghost use Rattle.std.specs.Prelude.{◌≡◌, ℕ, ◌<◌, IfOk, IsOk, if◌then◌else◌, replicate, length, slice_index_or};
+ghost use Rattle.mlu_ring.specs.Fours.{AreLong, in_order, places};
 ghost use Rattle.mlu_ring.specs.Tables.{pair};
 ghost use Rattle.std.specs.Vec.{vec_capacity};
 
-use crate::additive::Additive;
+use crate::additive::{Additive, zeros};
 use std::alloc::{AllocError, Global};
 use std::ops::Mul;
 
@@ -42,7 +42,7 @@ pub trait PrimeCharacteristicRing: Additive + Mul<Self, Output = Self> {
     /// reduction to the end of a sum has a body of its own.
     #[inline]
     fn four_products(l: &(Self, Self, Self, Self), r: &(Self, Self, Self, Self)) -> Self
-        ensures { result ≡ pair Self.ring (l.now.0 ∷ l.now.1 ∷ l.now.2 ∷ l.now.3 ∷ []) (r.now.0 ∷ r.now.1 ∷ r.now.2 ∷ r.now.3 ∷ []) }
+        ensures { result ≡ pair Self.ring (in_order l.now) (in_order r.now) }
     {
         l.0 * r.0 + l.1 * r.1 + (l.2 * r.2 + l.3 * r.3)
     }
@@ -60,14 +60,10 @@ pub trait PrimeCharacteristicRing: Additive + Mul<Self, Output = Self> {
         third: &(Self, Self, Self, Self),
         fourth: &(Self, Self, Self, Self),
     ) -> (Self, Self, Self, Self)
-        ensures first { result.0 ≡ pair Self.ring (l.now.0 ∷ l.now.1 ∷ l.now.2 ∷ l.now.3 ∷ [])
-            (first.now.0 ∷ first.now.1 ∷ first.now.2 ∷ first.now.3 ∷ []) }
-        ensures second { result.1 ≡ pair Self.ring (l.now.0 ∷ l.now.1 ∷ l.now.2 ∷ l.now.3 ∷ [])
-            (second.now.0 ∷ second.now.1 ∷ second.now.2 ∷ second.now.3 ∷ []) }
-        ensures third { result.2 ≡ pair Self.ring (l.now.0 ∷ l.now.1 ∷ l.now.2 ∷ l.now.3 ∷ [])
-            (third.now.0 ∷ third.now.1 ∷ third.now.2 ∷ third.now.3 ∷ []) }
-        ensures fourth { result.3 ≡ pair Self.ring (l.now.0 ∷ l.now.1 ∷ l.now.2 ∷ l.now.3 ∷ [])
-            (fourth.now.0 ∷ fourth.now.1 ∷ fourth.now.2 ∷ fourth.now.3 ∷ []) }
+        ensures first { result.0 ≡ pair Self.ring (in_order l.now) (in_order first.now) }
+        ensures second { result.1 ≡ pair Self.ring (in_order l.now) (in_order second.now) }
+        ensures third { result.2 ≡ pair Self.ring (in_order l.now) (in_order third.now) }
+        ensures fourth { result.3 ≡ pair Self.ring (in_order l.now) (in_order fourth.now) }
     {
         (
             Self::four_products(l, first),
@@ -89,14 +85,10 @@ pub trait PrimeCharacteristicRing: Additive + Mul<Self, Output = Self> {
         third: &(Self, Self, Self, Self),
         fourth: &(Self, Self, Self, Self),
     ) -> (Self, Self, Self, Self)
-        ensures first { result.0 ≡ pair Self.ring (l.now.0 ∷ l.now.1 ∷ l.now.2 ∷ l.now.3 ∷ [])
-            (first.now.0 ∷ first.now.1 ∷ first.now.2 ∷ first.now.3 ∷ []) }
-        ensures second { result.1 ≡ pair Self.ring (l.now.0 ∷ l.now.1 ∷ l.now.2 ∷ l.now.3 ∷ [])
-            (second.now.0 ∷ second.now.1 ∷ second.now.2 ∷ second.now.3 ∷ []) }
-        ensures third { result.2 ≡ pair Self.ring (l.now.0 ∷ l.now.1 ∷ l.now.2 ∷ l.now.3 ∷ [])
-            (third.now.0 ∷ third.now.1 ∷ third.now.2 ∷ third.now.3 ∷ []) }
-        ensures fourth { result.3 ≡ pair Self.ring (l.now.0 ∷ l.now.1 ∷ l.now.2 ∷ l.now.3 ∷ [])
-            (fourth.now.0 ∷ fourth.now.1 ∷ fourth.now.2 ∷ fourth.now.3 ∷ []) }
+        ensures first { result.0 ≡ pair Self.ring (in_order l.now) (in_order first.now) }
+        ensures second { result.1 ≡ pair Self.ring (in_order l.now) (in_order second.now) }
+        ensures third { result.2 ≡ pair Self.ring (in_order l.now) (in_order third.now) }
+        ensures fourth { result.3 ≡ pair Self.ring (in_order l.now) (in_order fourth.now) }
     {
         Self::row_times_columns(l, first, second, third, fourth)
     }
@@ -149,7 +141,7 @@ pub trait PrimeCharacteristicRing: Additive + Mul<Self, Output = Self> {
         ensures long { length out.new ≡ length out.old }
         ensures each { (k : ℕ) → k < length out.old → slice_index_or out.new k Self.ring.zero
             ≡ pair Self.ring (places l.now.0.now l.now.1.now l.now.2.now l.now.3.now k Self.ring.zero)
-            (column.now.0 ∷ column.now.1 ∷ column.now.2 ∷ column.now.3 ∷ []) }
+            (in_order column.now) }
     {
         for k in 0..out.len() {
             let row = (l.0[k], l.1[k], l.2[k], l.3[k]);
@@ -166,11 +158,7 @@ pub trait PrimeCharacteristicRing: Additive + Mul<Self, Output = Self> {
         ensures exact { IfOk result (λ zeros. vec_capacity zeros ≡ len) }
         ensures none { len ≡ 0 → IsOk result }
     {
-        let mut zeros = Vec::with_capacity(alloc, len)?;
-        for _ in 0..len {
-            zeros.push_reserved(Self::ZERO);
-        }
-        Ok(zeros)
+        zeros(alloc, len)
     }
 
     ghost can_mul_law: { (a b : Self) → Self.can_mul a b };

@@ -10,8 +10,7 @@ use crate::half::{EqMaybePacked, Weights};
 use mlu_kernel::one_row::lane_sum;
 use mlu_kernel::{compress_hi_dot_packed, compress_hi_dot_packed_eager};
 use mlu_ring::{
-    Additive, Algebra, ExtensionField, Field, Lanewise, PackedFieldExtension, PackedValue,
-    PrimeCharacteristicRing, row_of,
+    Additive, Algebra, ExtensionField, Field, PackedFieldExtension, PrimeCharacteristicRing, row_of,
 };
 
 /// With fewer entries than these it does not pay to split the packed weights into columns.
@@ -76,7 +75,7 @@ fn row_dot<F: Field, EF: ExtensionField<F>>(eq1: &EqMaybePacked<F, EF>, row: &[E
     ensures { result ≡ pair EF.ring eq1.now.weights row.now }
 {
     match eq1.weights() {
-        Weights::Scalar(weights) => dot(weights, row),
+        Weights::Scalar(weights) => EF::dot(weights, row),
         Weights::Packed(weights) => lane_sum::<F, EF>(group_dot::<F, EF>(weights, row)),
     }
 }
@@ -172,11 +171,9 @@ fn group_dot<F: Field, EF: ExtensionField<F>>(
     ensures { sum_of EF.ring (EF.ExtensionPacking.ext_lanes result)
         ≡ pair EF.ring (logical EF.ExtensionPacking.ext_lanes weights.now) entries.now }
 {
-    let width = F::Packing::WIDTH;
     let mut sum = EF::ExtensionPacking::ZERO;
     for i in 0..weights.len() {
-        let start = i * width;
-        let group = EF::ExtensionPacking::from_ext_slice(&entries[start..start + width]);
+        let group = EF::ExtensionPacking::from_ext_slice(row_of(entries, weights.len(), i));
         sum = sum + weights[i] * group;
     }
     sum

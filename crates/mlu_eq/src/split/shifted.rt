@@ -4,17 +4,14 @@
 //! Row `j` of the table, with `n` weights, so meets the places from `j * n + 1` on: whole rows go
 //! through the plain kernels, across the borders of the rows. The last row is cut by one place.
 ghost use Rattle.std.specs.Prelude.{◌≡◌, ℕ, ◌<◌, ◌≤◌, ◌+◌, ◌-◌, ◌*◌, length, map, take, slice_index_or};
-ghost use Rattle.std.specs.Mem.{type_size};
 ghost use Rattle.mlu_ring.specs.Lanes.{logical};
 ghost use Rattle.mlu_ring.specs.Tables.{back, pair};
 ghost use Rattle.mlu_ring.specs.Successor.{shifted};
 ghost use Rattle.mlu_kernel.specs.Kernels.{plus_rows};
-ghost use Rattle.mlu_kernel.specs.declared.small.TheConstants.{SMALL_BYTES};
 ghost use Rattle.mlu_eq.specs.Split.{contents};
 
 use super::dot::{base_dot, dot_base};
 use super::prefix::{add_lane_rows, add_scalar_row, add_scalar_rows, compress_prefix_into};
-use super::suffix::{MOST_JOINED, can_be_joined, join_halves};
 use crate::half::{EqMaybePacked, Weights};
 use mlu_kernel::one_row::{lane_sum, row_dot_in_lanes};
 use mlu_kernel::rows::row_dots;
@@ -64,56 +61,11 @@ pub fn compress_prefix_shifted_into<F: Field, EF: ExtensionField<F>>(
     add_leading_rows(eq1, *last, out, &entries[border..]);
 }
 
-/// Writes the dot of the moved table with each row of `entries`. What `out` held does not
-/// count.
-///
-/// Asks for a first half that is not empty, and for as many rows as `out` has places.
-pub fn compress_suffix_shifted_into<F: Field, EF: ExtensionField<F>>(
-    eq0: &[EF],
-    eq1: &EqMaybePacked<F, EF>,
-    out: &mut [EF],
-    entries: &[F],
-)
-    requires some { 0 < length eq0.now }
-    requires size { length entries.now ≡ length out.old * (length eq0.now * length eq1.now.weights) }
-    ensures { out.new ≡ back EF.ring (shifted EF.ring (contents EF.ring eq0.now eq1.now.weights)) (map EF.embed entries.now) }
-{
-    eq1.is_not_empty();
-    if let Weights::Packed(weights) = eq1.weights() {
-        if can_be_joined::<F, EF>(eq0.len(), weights.len()) {
-            return compress_shifted_by_joined::<F, EF>(eq0, weights, out, entries);
-        }
-    }
-    for y in 0..out.len() {
-        out[y] = dot_base_shifted(eq0, eq1, row_of(entries, out.len(), y));
-    }
-}
-
-/// The same, with the products of both halves written once, for all rows.
-fn compress_shifted_by_joined<F: Field, EF: ExtensionField<F>>(
-    eq0: &[EF],
-    weights: &[EF::ExtensionPacking],
-    out: &mut [EF],
-    entries: &[F],
-)
-    requires some { 0 < length eq0.now * (length weights.now * F.Packing.WIDTH) }
-    requires few { length eq0.now * length weights.now ≤ MOST_JOINED }
-    requires small { type_size EF.ExtensionPacking.row < SMALL_BYTES }
-    requires size { length entries.now ≡ length out.old * (length eq0.now * (length weights.now * F.Packing.WIDTH)) }
-    ensures { out.new ≡ back EF.ring (shifted EF.ring (contents EF.ring eq0.now (logical EF.ExtensionPacking.ext_lanes weights.now)))
-        (map EF.embed entries.now) }
-{
-    let mut places = [EF::ExtensionPacking::ZERO; MOST_JOINED];
-    let joined = &mut places[..eq0.len() * weights.len()];
-    join_halves::<F, EF>(eq0, joined, weights);
-    compress_shifted_by_packed::<F, EF>(joined, out, entries);
-}
-
 /// Writes the dot of the moved weights with each row.
 ///
 /// All rows but the last are read on by a place, so that they meet whole packed weights. The last
 /// weight then meets the first entry of the next row, and their product is taken away again.
-fn compress_shifted_by_packed<F: Field, EF: ExtensionField<F>>(
+pub(super) fn row_dots_shifted<F: Field, EF: ExtensionField<F>>(
     weights: &[EF::ExtensionPacking],
     out: &mut [EF],
     entries: &[F],

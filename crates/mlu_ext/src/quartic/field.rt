@@ -6,7 +6,8 @@ ghost use Rattle.mlu_ext.specs.Quartic.{quartic_coefficients, quartic_of, quarti
 ghost use Rattle.mlu_ext.specs.QuarticMaps.{quartic_are_lists, product-constant_coefficients};
 
 use super::QuarticExtension;
-use mlu_lanes::{BabyBear, Coefficients, LaneWidth, Lanes};
+use super::ring::joined_powers;
+use mlu_lanes::{BabyBear, Coefficients, LaneWidth, Lanes, column_times_rows};
 use mlu_ring::{ExtensionField, Field, Lanewise, PackedValue, PrimeCharacteristicRing};
 use std::mem::size_of;
 
@@ -22,6 +23,16 @@ impl<const W: usize> Field for QuarticExtension<BabyBear<W>> {
     #[inline]
     fn bytes() -> usize {
         size_of::<Self>()
+    }
+
+    // Each coefficient is reduced once, for any number of places.
+    #[inline]
+    fn dot(l: &[Self], r: &[Self]) -> Self {
+        let constant = column_times_rows(l, 0, r);
+        let linear = column_times_rows(l, 1, r);
+        let quadratic = column_times_rows(l, 2, r);
+        let cubic = column_times_rows(l, 3, r);
+        joined_powers(constant, linear, quadratic, cubic)
     }
 
     // Tables multiply every entry by the same coordinate, so it is worth preparing.

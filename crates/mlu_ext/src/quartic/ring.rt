@@ -1,7 +1,7 @@
 //! The ring of the polynomials: sums by coefficients, products modulo X^4 - 11.
 ghost use Rattle.std.specs.Prelude.{◌≡◌};
 ghost use Rattle.mlu_ext.specs.Eleven.{eleven};
-ghost use Rattle.mlu_ext.specs.Quartic.{by_powers, constant, quartic, quartic_ring, Coefficientwise, CoefficientwisePair, CoefficientwiseTriple};
+ghost use Rattle.mlu_ext.specs.Quartic.{by_powers, constant, of_four, quartic_ring, Coefficientwise, CoefficientwisePair, CoefficientwiseTriple};
 ghost use Rattle.mlu_ext.specs.QuarticLaws.{quartic_laws, quartic_same, quartic_eq, constant_two, constant_neg_one, coefficients_by, coefficients_each_by};
 
 use super::QuarticExtension;
@@ -203,8 +203,7 @@ pub(super) fn joined_powers<R: Additive>(
     quadratic: (R, R, R, R),
     cubic: (R, R, R, R),
 ) -> QuarticExtension<R>
-    ensures { result ≡ by_powers R.ring (quartic constant.0 constant.1 constant.2 constant.3) (quartic linear.0 linear.1 linear.2 linear.3)
-        (quartic quadratic.0 quadratic.1 quadratic.2 quadratic.3) (quartic cubic.0 cubic.1 cubic.2 cubic.3) }
+    ensures { result ≡ by_powers R.ring (of_four constant) (of_four linear) (of_four quadratic) (of_four cubic) }
 {
     QuarticExtension {
         c0: constant.0 + times_eleven(linear.3 + quadratic.2 + cubic.1),

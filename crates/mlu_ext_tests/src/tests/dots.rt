@@ -1,6 +1,6 @@
 //! Dots of quartics, beside their products added up one by one.
-use super::{Bear, Quartic, quartic};
-use mlu_ring::{Additive, Algebra};
+use super::{Quartic, quartic};
+use mlu_ring::{Additive, Field};
 use mlu_test_support::draws::drawn;
 use mlu_test_support::lists::filled;
 use rand_pcg::Pcg32;
@@ -23,25 +23,9 @@ fn dots_at_each_number_of_places(rt: HostRuntime) -> Result<(), Fail> {
 }
 
 #[test]
-fn base_dots_at_each_number_of_places(rt: HostRuntime) -> Result<(), Fail> {
-    let mut rng = Pcg32::new(42, 54);
-    let elements = drawn::<Quartic>(rt.alloc(), &mut rng, PLACES)?;
-    let scalars = drawn::<Bear>(rt.alloc(), &mut rng, PLACES)?;
-    let mut sum = Quartic::ZERO;
-    for n in 0..PLACES {
-        assert_eq!(rt; Quartic::base_dot(&elements[..n], &scalars[..n]), sum);
-        sum = sum + elements[n].scale(scalars[n]);
-    }
-    Ok(())
-}
-
-#[test]
 fn dots_of_the_greatest_residues(rt: HostRuntime) -> Result<(), Fail> {
     let greatest = filled(rt.alloc(), -quartic(1, 1, 1, 1), PLACES)?;
-    let minus = filled(rt.alloc(), -Bear::ONE, PLACES)?;
     let dot = Quartic::dot(greatest.as_slice(), greatest.as_slice());
     assert_eq!(rt; dot, quartic(4420, 3120, 1820, 520));
-    let scaled = Quartic::base_dot(greatest.as_slice(), minus.as_slice());
-    assert_eq!(rt; scaled, quartic(130, 130, 130, 130));
     Ok(())
 }

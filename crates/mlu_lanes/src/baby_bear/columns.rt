@@ -23,22 +23,23 @@ const GROUP: usize = 4;
 const MOST_PLACES: usize = 1073741824;
 
 /// Coefficient `a` of each element of `l` as a row, times the matrix whose rows are the four
-/// coefficients of those of `r`. Asks for slices of one length, and that there is a coefficient `a`.
+/// coefficients of those of `r`. Asks for slices of one length, that elements have four
+/// coefficients, and for one of them.
 ///
 /// A dot of quartics is four of these. Each sum is reduced once, for any number of places.
 #[inline(always)]
-pub fn column_times_rows<
-    const W: usize,
-    L: Coefficients<BabyBear<W>>,
-    E: Coefficients<BabyBear<W>>,
->(l: &[L], a: usize, r: &[E]) -> (BabyBear<W>, BabyBear<W>, BabyBear<W>, BabyBear<W>)
+pub fn column_times_rows<const W: usize, E: Coefficients<BabyBear<W>>>(
+    l: &[E],
+    a: usize,
+    r: &[E],
+) -> (BabyBear<W>, BabyBear<W>, BabyBear<W>, BabyBear<W>)
     requires long { length l.now ≡ length r.now }
-    requires left { a < L.count }
-    requires right { E.count ≡ 4 }
-    ensures first { result.0 ≡ pair (baby_bear_ring W) (column_of (reduced 0) L.list l.now a) (column_of (reduced 0) E.list r.now 0) }
-    ensures second { result.1 ≡ pair (baby_bear_ring W) (column_of (reduced 0) L.list l.now a) (column_of (reduced 0) E.list r.now 1) }
-    ensures third { result.2 ≡ pair (baby_bear_ring W) (column_of (reduced 0) L.list l.now a) (column_of (reduced 0) E.list r.now 2) }
-    ensures fourth { result.3 ≡ pair (baby_bear_ring W) (column_of (reduced 0) L.list l.now a) (column_of (reduced 0) E.list r.now 3) }
+    requires column { a < 4 }
+    requires four { E.count ≡ 4 }
+    ensures first { result.0 ≡ pair (baby_bear_ring W) (column_of (reduced 0) E.list l.now a) (column_of (reduced 0) E.list r.now 0) }
+    ensures second { result.1 ≡ pair (baby_bear_ring W) (column_of (reduced 0) E.list l.now a) (column_of (reduced 0) E.list r.now 1) }
+    ensures third { result.2 ≡ pair (baby_bear_ring W) (column_of (reduced 0) E.list l.now a) (column_of (reduced 0) E.list r.now 2) }
+    ensures fourth { result.3 ≡ pair (baby_bear_ring W) (column_of (reduced 0) E.list l.now a) (column_of (reduced 0) E.list r.now 3) }
 {
     elements_of(residues_of_sums(l, a, r))
 }
@@ -46,16 +47,16 @@ pub fn column_times_rows<
 /// Lane `j` is the residue of the sum of the products of coefficient `a` of each element of `l` and
 /// coefficient `j` of that of `r`.
 #[inline(always)]
-fn residues_of_sums<const W: usize, L: Coefficients<BabyBear<W>>, E: Coefficients<BabyBear<W>>>(
-    l: &[L],
+fn residues_of_sums<const W: usize, E: Coefficients<BabyBear<W>>>(
+    l: &[E],
     a: usize,
     r: &[E],
 ) -> Simd<u32, 4>
     requires long { length l.now ≡ length r.now }
-    requires left { a < L.count }
-    requires right { E.count ≡ 4 }
+    requires column { a < 4 }
+    requires four { E.count ≡ 4 }
     ensures { (j : ℕ) → j < 4 → slice_index result j
-        ≡ canonical (pair (baby_bear_ring W) (column_of (reduced 0) L.list l.now a) (column_of (reduced 0) E.list r.now j)) }
+        ≡ canonical (pair (baby_bear_ring W) (column_of (reduced 0) E.list l.now a) (column_of (reduced 0) E.list r.now j)) }
 {
     if l.len() > MOST_PLACES {
         return column_times_many_rows(l, a, r);
@@ -64,16 +65,16 @@ fn residues_of_sums<const W: usize, L: Coefficients<BabyBear<W>>, E: Coefficient
 }
 
 /// [`residues_of_sums`] at any number of places, as many at a time as words hold.
-fn column_times_many_rows<
-    const W: usize,
-    L: Coefficients<BabyBear<W>>,
-    E: Coefficients<BabyBear<W>>,
->(l: &[L], a: usize, r: &[E]) -> Simd<u32, 4>
+fn column_times_many_rows<const W: usize, E: Coefficients<BabyBear<W>>>(
+    l: &[E],
+    a: usize,
+    r: &[E],
+) -> Simd<u32, 4>
     requires long { length l.now ≡ length r.now }
-    requires left { a < L.count }
-    requires right { E.count ≡ 4 }
+    requires column { a < 4 }
+    requires four { E.count ≡ 4 }
     ensures { (j : ℕ) → j < 4 → slice_index result j
-        ≡ canonical (pair (baby_bear_ring W) (column_of (reduced 0) L.list l.now a) (column_of (reduced 0) E.list r.now j)) }
+        ≡ canonical (pair (baby_bear_ring W) (column_of (reduced 0) E.list l.now a) (column_of (reduced 0) E.list r.now j)) }
 {
     if l.len() <= MOST_PLACES {
         return column_times_few_rows(l, a, r);
@@ -87,17 +88,17 @@ fn column_times_many_rows<
 
 /// [`residues_of_sums`] at [`MOST_PLACES`] places or fewer.
 #[inline(always)]
-fn column_times_few_rows<
-    const W: usize,
-    L: Coefficients<BabyBear<W>>,
-    E: Coefficients<BabyBear<W>>,
->(l: &[L], a: usize, r: &[E]) -> Simd<u32, 4>
+fn column_times_few_rows<const W: usize, E: Coefficients<BabyBear<W>>>(
+    l: &[E],
+    a: usize,
+    r: &[E],
+) -> Simd<u32, 4>
     requires long { length l.now ≡ length r.now }
     requires most { length l.now ≤ MOST_PLACES }
-    requires left { a < L.count }
-    requires right { E.count ≡ 4 }
+    requires column { a < 4 }
+    requires four { E.count ≡ 4 }
     ensures { (j : ℕ) → j < 4 → slice_index result j
-        ≡ canonical (pair (baby_bear_ring W) (column_of (reduced 0) L.list l.now a) (column_of (reduced 0) E.list r.now j)) }
+        ≡ canonical (pair (baby_bear_ring W) (column_of (reduced 0) E.list l.now a) (column_of (reduced 0) E.list r.now j)) }
 {
     let mut lows = wide_all(0);
     let mut highs = wide_all(0);

@@ -1,6 +1,6 @@
 //! The prime field over itself: the identity as embedding, one coefficient, and the lanes as packed
 //! form.
-ghost use Rattle.std.specs.Prelude.{◌≡◌, ◌∷◌, [], refl, slice_index_or};
+ghost use Rattle.std.specs.Prelude.{◌∷◌, [], refl, slice_index_or};
 ghost use Rattle.std.proofs.Common.{sym};
 ghost use Rattle.std.proofs.lemmas.List.{map-id};
 ghost use Rattle.mlu_ring.proofs.TrivialExtension.{identity_is_ring_map, one_coefficient, only_transposed};
@@ -8,7 +8,6 @@ ghost use Rattle.mlu_lanes.specs.LaneRing.{values_of, splat, packed_of, lanes_ar
 ghost use Rattle.mlu_lanes.specs.BabyBear.{baby_bear_ring};
 
 use super::BabyBear;
-use crate::coefficients::Coefficients;
 use crate::lanes::{LaneWidth, Lanes};
 use mlu_ring::{
     Algebra, ExtensionField, MapFrom, PackedFieldExtension, PackedValue, RingMapFrom, SelfAlgebra,
@@ -23,23 +22,6 @@ impl<const W: usize> Algebra<BabyBear<W>> for BabyBear<W> {
     }
 
     ghost keeps = { identity_is_ring_map (baby_bear_ring W) };
-}
-
-/// An element is its only coefficient.
-impl<const W: usize> Coefficients<BabyBear<W>> for BabyBear<W> {
-    ghost count = { 1 };
-
-    ghost list = { λ a. a ∷ [] };
-
-    #[inline]
-    fn at(&self, _k: usize) -> BabyBear<W> {
-        *self
-    }
-
-    #[inline]
-    fn set_at(&mut self, _k: usize, c: BabyBear<W>) {
-        *self = c;
-    }
 }
 
 impl<const W: usize> SelfAlgebra for BabyBear<W> {

@@ -154,15 +154,15 @@ impl<F: PrimeCharacteristicRing, const W: usize> PrimeCharacteristicRing for Lan
 }
 
 impl<F: PrimeCharacteristicRing, const W: usize> Lanes<F, W> {
-    ghost use Rattle.std.specs.Prelude.{◌∷◌, []};
+    ghost use Rattle.std.specs.Prelude.{map};
+    ghost use Rattle.mlu_ring.specs.Fours.{in_order};
     ghost use Rattle.mlu_ring.specs.Tables.{pair};
 
     /// The sum of the products of four packed values with an element each, which stands in every
     /// lane.
     #[inline(always)]
     pub fn row_times_column(row: &(Self, Self, Self, Self), column: &(F, F, F, F)) -> Self
-        ensures { result ≡ pair (lane_ring W F.ring) (row.now.0 ∷ row.now.1 ∷ row.now.2 ∷ row.now.3 ∷ [])
-            (splat W column.now.0 ∷ splat W column.now.1 ∷ splat W column.now.2 ∷ splat W column.now.3 ∷ []) }
+        ensures { result ≡ pair (lane_ring W F.ring) (in_order row.now) (map (splat W) (in_order column.now)) }
     {
         let mut values = [F::ZERO; W];
         let places = (

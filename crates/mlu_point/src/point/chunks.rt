@@ -1,11 +1,11 @@
 //! Equality tables filled chunk after chunk, each from the weight of its high coordinates.
-ghost use Rattle.std.specs.Prelude.{◌≡◌, ◌+◌, ◌-◌, ◌*◌, ◌^◌, ◌<◌, ◌≤◌, length, map, IfOk, IsOk, OnErr, is_ok, if◌then◌else◌, replicate};
+ghost use Rattle.std.specs.Prelude.{◌≡◌, ◌+◌, ◌-◌, ◌*◌, ◌^◌, ◌<◌, ◌≤◌, length, map, IfOk, IsOk, OnErr, is_ok, if◌then◌else◌};
 ghost use Rattle.std.specs.Vec.{vec_capacity};
 ghost use Rattle.mlu_point.specs.Orders.{weights_by, joined_by, scaled_by_each};
 
 use super::metered::fill_by_meter;
 use super::order::BitOrder;
-use mlu_ring::{Additive, Field, Lanewise, Meter, Unmetered, row_range};
+use mlu_ring::{Field, Lanewise, Meter, Unmetered, row_range, zeros};
 use std::alloc::{AllocError, Global};
 
 /// The coordinates that read the top bits of an index, and so many others.
@@ -21,18 +21,6 @@ fn split_high<R>(coords: &[R], order: BitOrder, low_variables: usize) -> (&[R], 
             (high, low)
         }
     }
-}
-
-/// `len` zeros, in one allocation of exactly that many elements.
-fn zeros<F: Additive>(alloc: Global, len: usize) -> Result<Vec<F>, AllocError>
-    ensures zeros { IfOk result (λ zeros. zeros.items ≡ replicate len F.ring.zero) }
-    ensures exact { IfOk result (λ zeros. vec_capacity zeros ≡ len) }
-{
-    let mut zeros = Vec::with_capacity(alloc, len)?;
-    for _ in 0..len {
-        zeros.push_reserved(F::ZERO);
-    }
-    Ok(zeros)
 }
 
 /// The scale times each weight, in the order and in one allocation of exactly `2^n` elements. Asks

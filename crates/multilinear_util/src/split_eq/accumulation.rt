@@ -7,7 +7,9 @@ ghost use Rattle.mlu_ring.specs.Lanes.{logical};
 use super::SplitEq;
 use crate::poly::Poly;
 use mlu_eq::split;
-use mlu_ring::{Additive, ExtensionField, Field, Lanewise, PackedFieldExtension, PackedValue};
+use mlu_ring::{
+    Additive, ExtensionField, Field, Lanewise, PackedFieldExtension, PackedValue, row_of,
+};
 use std::alloc::{AllocError, Global};
 
 impl<F: Field, EF: ExtensionField<F>> SplitEq<F, EF> {
@@ -95,10 +97,8 @@ fn add_groups<F: Field, EF: ExtensionField<F>>(out: &mut [EF::ExtensionPacking],
     requires { length values.now ≡ length out.old * F.Packing.WIDTH }
     ensures { logical EF.ExtensionPacking.ext_lanes out.new ≡ zip2 EF.ring.sum (logical EF.ExtensionPacking.ext_lanes out.old) values.now }
 {
-    let width = F::Packing::WIDTH;
     for i in 0..out.len() {
-        let start = i * width;
-        let group = EF::ExtensionPacking::from_ext_slice(&values[start..start + width]);
+        let group = EF::ExtensionPacking::from_ext_slice(row_of(values, out.len(), i));
         out[i] = out[i] + group;
     }
 }

@@ -1,15 +1,7 @@
-use Rattle.std.proofs.Common.{◌<◌, ◌*◌, ◌∙◌, length, map, ap, sym, subst}
+use Rattle.std.proofs.Common.{◌<◌, ◌-◌, ◌*◌, ◌∙◌, length, map, ap, sym, subst, arith}
 use Rattle.std.proofs.Math.Nat.{mul_assoc}
-use Rattle.std.proofs.lemmas.List.{length-map}
-use Rattle.mlu_ring.specs.Lanes.{logical}
-use Rattle.mlu_ring.specs.Matrices.{row_at}
-use Rattle.mlu_ring.specs.Tables.{pair}
-use Rattle.mlu_ring.proofs.Logical.{length-logical}
-use Rattle.mlu_ring.proofs.Tabulated.{length-tabulate, get_or-tabulate}
-use Rattle.mlu_kernel.specs.Kernels.{dots_of_rows}
-use Rattle.mlu_eq.specs.Split.{contents}
-use Rattle.mlu_eq.proofs.Compressions.{back_of_dots}
-use Rattle.mlu_eq.proofs.Contents.{length-contents}
+use Rattle.mlu_ring.specs.Tables.{back}
+use Rattle.mlu_eq.proofs.Lengths.{some_values}
 use Rattle.mlu_eq.proofs.Places.{zero_places, length-places}
 use Rattle.mlu_eq.proofs.split.suffix.compress_by_joined.Goals as goal
 
@@ -19,8 +11,16 @@ join_halves-requires g c =
     let zero = g.EF.ExtensionPacking.Additive.ring.zero in
     zero_places 128 n c.ZERO-places.result c.requires.few zero (c.ZERO-places.ensures ∙ g.met.EF.ExtensionPacking.Additive.zero_is)
 
-pub row_dots-requires : goal.row_dots-requires
-row_dots-requires g c =
+pub write_row_dots-requires-clause-some : goal.write_row_dots-requires-clause-some
+write_row_dots-requires-clause-some g c =
+    let width = g.F.Packing.PackedValue.WIDTH in
+    let n = length c.args.eq0.now * length c.args.weights.now in
+    let long = c.join_halves.auto.joined ∙ length-places 128 n c.ZERO-places.result c.requires.few in
+    let some = subst (λ k. 0 < k) (sym (mul_assoc (length c.args.eq0.now) (length c.args.weights.now) width)) c.requires.some in
+    subst (λ k. 0 < k) (sym long) (some_values n width (n * width - 1) (omega (arith, some)))
+
+pub write_row_dots-requires-clause-size : goal.write_row_dots-requires-clause-size
+write_row_dots-requires-clause-size g c =
     let m = length c.args.out.now in
     let width = g.F.Packing.PackedValue.WIDTH in
     let n = length c.args.eq0.now * length c.args.weights.now in
@@ -32,19 +32,4 @@ row_dots-requires g c =
 pub returns : goal.returns
 returns g c =
     let ring = g.EF.Additive.ring in
-    let laws = g.met.EF.Additive.laws in
-    let ext = g.EF.ExtensionPacking.PackedFieldExtension in
-    let met = g.met.EF.ExtensionPacking.PackedFieldExtension in
-    let w = logical ext.ext_lanes c.args.weights.now in
-    let table = contents ring c.args.eq0.now w in
-    let e = map g.EF.Algebra.embed c.args.entries.now in
-    let m = length c.args.out.now in
-    let wide = length-logical ext.ext_lanes g.F.Packing.PackedValue.WIDTH met.lanes_are.length-parts c.args.weights.now in
-    let many = length-contents ring c.args.eq0.now w ∙ ap (λ k. length c.args.eq0.now * k) wide in
-    c.row_dots.ensures
-    ∙ ap (λ t. dots_of_rows ring t e m) c.join_halves.ensures
-    ∙ back_of_dots ring laws table e (dots_of_rows ring table e m) m
-    (subst (λ k. 0 < k) (sym many) c.requires.some)
-    (length-map c.args.entries.now g.EF.Algebra.embed ∙ c.requires.size ∙ ap (λ k. m * k) (sym many))
-    (length-tabulate m (λ y. pair ring table (row_at (length table) e y)))
-    (λ k d h. get_or-tabulate m (λ y. pair ring table (row_at (length table) e y)) k d h)
+    c.write_row_dots.ensures ∙ ap (λ t. back ring (g.S.SuffixCompression.moved t) (map g.EF.Algebra.embed c.args.entries.now)) c.join_halves.ensures

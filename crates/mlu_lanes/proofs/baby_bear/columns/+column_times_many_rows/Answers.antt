@@ -16,9 +16,9 @@ reduce_each_once-requires g n c = (
         c.sums.ensures j b,
         c.column_times_few_rows-first.ensures j b,
         c.column_times_many_rows-others.ensures j b,
-        canonical_below (pair (baby_bear_ring g.row.W) (column_of (reduced 0) g.L.Coefficients.list c.split_at.result.0.now c.args.a)
+        canonical_below (pair (baby_bear_ring g.row.W) (column_of (reduced 0) g.E.Coefficients.list c.split_at.result.0.now c.args.a)
             (column_of (reduced 0) g.E.Coefficients.list c.split_at-2.result.0.now j)),
-        canonical_below (pair (baby_bear_ring g.row.W) (column_of (reduced 0) g.L.Coefficients.list c.split_at.result.1.now c.args.a)
+        canonical_below (pair (baby_bear_ring g.row.W) (column_of (reduced 0) g.E.Coefficients.list c.split_at.result.1.now c.args.a)
             (column_of (reduced 0) g.E.Coefficients.list c.split_at-2.result.1.now j)),
       ),
 )
@@ -28,15 +28,14 @@ returns g n c j b =
     let ring = baby_bear_ring g.row.W in
     let l = c.args.l.now in
     let r = c.args.r.now in
-    let left = g.L.Coefficients.list in
-    let right = g.E.Coefficients.list in
-    let first = pair ring (column_of (reduced 0) left c.split_at.result.0.now c.args.a) (column_of (reduced 0) right c.split_at-2.result.0.now j) in
-    let others = pair ring (column_of (reduced 0) left c.split_at.result.1.now c.args.a) (column_of (reduced 0) right c.split_at-2.result.1.now j) in
+    let list = g.E.Coefficients.list in
+    let first = pair ring (column_of (reduced 0) list c.split_at.result.0.now c.args.a) (column_of (reduced 0) list c.split_at-2.result.0.now j) in
+    let others = pair ring (column_of (reduced 0) list c.split_at.result.1.now c.args.a) (column_of (reduced 0) list c.split_at-2.result.1.now j) in
     let words : slice_index c.sums.result j ≡ canonical first + canonical others =
     omega (arith, c.sums.ensures j b, c.column_times_few_rows-first.ensures j b, c.column_times_many_rows-others.ensures j b, canonical_below first, canonical_below others) in
-    let split = pair-in_two (λ x. slice_index_or (left x) c.args.a (reduced 0)) (λ x. slice_index_or (right x) j (reduced 0)) l r 1073741824 (omega (arith, c.if-l-le-MOST_PLACES.false)) in
+    let split = pair-in_two (λ x. slice_index_or (list x) c.args.a (reduced 0)) (λ x. slice_index_or (list x) j (reduced 0)) l r 1073741824 (omega (arith, c.if-l-le-MOST_PLACES.false)) in
     c.reduce_each_once.ensures j b ∙ ap (λ m. m % MODULUS) words
     ∙ sym (ap canonical (split
     ∙ (λ i. ring.sum
-    (pair ring (column_of (reduced 0) left (sym c.split_at.ensures.front i) c.args.a) (column_of (reduced 0) right (sym c.split_at-2.ensures.front i) j))
-    (pair ring (column_of (reduced 0) left (sym c.split_at.ensures.back i) c.args.a) (column_of (reduced 0) right (sym c.split_at-2.ensures.back i) j)))))
+    (pair ring (column_of (reduced 0) list (sym c.split_at.ensures.front i) c.args.a) (column_of (reduced 0) list (sym c.split_at-2.ensures.front i) j))
+    (pair ring (column_of (reduced 0) list (sym c.split_at.ensures.back i) c.args.a) (column_of (reduced 0) list (sym c.split_at-2.ensures.back i) j)))))

@@ -27,12 +27,12 @@ loop-g-preserved g c =
     let ring = baby_bear_ring g.row.W in
     let list = g.E.Coefficients.list in
     let i = 4 * c.loop-g.g in
-    let left = column_of (reduced 0) g.L.Coefficients.list c.args.l.now c.args.a in
+    let left = column_of (reduced 0) list c.args.l.now c.args.a in
     let right = column_of (reduced 0) list c.args.r.now in
     let long_l : length left ≡ length c.args.l.now = length-map c.args.l.now _ in
     let next : 4 * (c.loop-g.g + 1) ≡ i + 4 = omega arith in
     let within : i + 3 < length left = omega (arith, long_l, c.loop-g-test.true) in
-    let at_l = read-column (reduced 0) g.L.Coefficients.list c.args.l.now in
+    let at_l = read-column (reduced 0) list c.args.l.now in
     let at_r = read-column (reduced 0) list c.args.r.now in
     let p = λ (j : ℕ). slice_index_or (list c.index-r-i.result) j (reduced 0) in
     let q = λ (j : ℕ). slice_index_or (list c.index-r-i-in-loop-g.result) j (reduced 0) in
@@ -66,7 +66,7 @@ loop-i-preserved g c =
     let ring = baby_bear_ring g.row.W in
     let list = g.E.Coefficients.list in
     let i = c.loop-i.i in
-    let left = column_of (reduced 0) g.L.Coefficients.list c.args.l.now c.args.a in
+    let left = column_of (reduced 0) list c.args.l.now c.args.a in
     let right = column_of (reduced 0) list c.args.r.now in
     let long_l : length left ≡ length c.args.l.now = length-map c.args.l.now _ in
     let within : i < length left = omega (arith, long_l, c.loop-i-test.true) in
@@ -81,5 +81,5 @@ loop-i-preserved g c =
     (λ j b. ap reduced (c.residue_products-products.ensures.value j b ∙ (λ k. c.all.ensures j b k * c.row-in-loop-i.ensures.value j b k)))
     (λ j b.
     pair-take_more ring (baby_bear_laws g.row.W) left (right j) i y (p j) within (omega (arith, within, long_l, c.requires.long, length-map c.args.r.now (λ e. slice_index_or (list e) j (reduced 0))))
-    (read-column (reduced 0) g.L.Coefficients.list c.args.l.now i c.args.a _ y c.index-l-i-in-loop-i.is (c.at-in-loop-i.ensures (reduced 0)))
+    (read-column (reduced 0) list c.args.l.now i c.args.a _ y c.index-l-i-in-loop-i.is (c.at-in-loop-i.ensures (reduced 0)))
     (read-column (reduced 0) list c.args.r.now i j _ (p j) c.index-r-i-in-loop-i.is refl))

@@ -8,9 +8,9 @@ use Rattle.mlu_lanes.proofs.baby_bear.columns.column_times_few_rows.Given as goa
 abbrev pub invariant-loop-g : goal.invariant-loop-g
 invariant-loop-g g l =
     AreHalves (4 * l.g) l.lows l.highs
-    (take (4 * l.g) (column_of (reduced 0) g.L.Coefficients.list l.l l.a)) (column_of (reduced 0) g.E.Coefficients.list l.r)
+    (take (4 * l.g) (column_of (reduced 0) g.E.Coefficients.list l.l l.a)) (column_of (reduced 0) g.E.Coefficients.list l.r)
 
 abbrev pub invariant-loop-i : goal.invariant-loop-i
 invariant-loop-i g l =
     AreHalves l.i l.lows l.highs
-    (take l.i (column_of (reduced 0) g.L.Coefficients.list l.l l.a)) (column_of (reduced 0) g.E.Coefficients.list l.r)
+    (take l.i (column_of (reduced 0) g.E.Coefficients.list l.l l.a)) (column_of (reduced 0) g.E.Coefficients.list l.r)

@@ -1,10 +1,14 @@
-use Rattle.std.proofs.Common.{◌≡◌, ◌*◌, ◌∙◌, length, take, drop, ap, sym, arith}
+use Rattle.std.proofs.Common.{◌≡◌, ◌*◌, ◌∙◌, length, ap, sym, arith}
 use Rattle.std.specs.Simd.Lanes.{zip2}
 use Rattle.mlu_ring.specs.Lanes.{logical}
 use Rattle.mlu_ring.proofs.Logical.{length-logical, zip_block_more}
 use Rattle.mlu_ring.proofs.Zips.{zip_whole}
-use Rattle.mlu_eq.proofs.Products.{block}
 use Rattle.multilinear_util.proofs.split_eq.accumulation.add_groups.Goals as goal
+
+pub from_ext_slice-group-requires : goal.from_ext_slice-group-requires
+from_ext_slice-group-requires g c =
+    let n = g.F.Packing.PackedValue.WIDTH in
+    c.row_of.ensures.size n (c.requires ∙ ap (λ k. k * n) (sym c.loop-i.auto.out))
 
 pub loop-i-preserved : goal.loop-i-preserved
 loop-i-preserved g c =
@@ -12,12 +16,11 @@ loop-i-preserved g c =
     let ext = g.EF.ExtensionPacking.PackedFieldExtension in
     let met = g.met.EF.ExtensionPacking.PackedFieldExtension in
     let n = g.F.Packing.PackedValue.WIDTH in
-    let v = c.WIDTH-width.result in
     let values = c.args.values.now in
     let old = logical ext.ext_lanes c.args.out.now in
     let many = length-logical ext.ext_lanes n met.lanes_are.length-parts c.args.out.now in
     let group = c.from_ext_slice-group.result in
-    let lanes = c.from_ext_slice-group.ensures ∙ block values c.loop-i.i v ∙ ap (λ k. take k (drop (c.loop-i.i * k) values)) c.WIDTH-width.ensures in
+    let lanes = c.from_ext_slice-group.ensures ∙ c.row_of.ensures.exact n (c.requires ∙ ap (λ k. k * n) (sym c.loop-i.auto.out)) in
     let added = g.met.EF.ExtensionPacking.Additive.adds c.index-out-i.result group c.add.result c.add.ensures in
     zip_block_more ext.ext_lanes n met.lanes_are.length-parts ring.sum c.loop-i.out old values c.loop-i.i c.index-out-i.result c.add.result
     (omega arith) (many ∙ ap (λ k. k * n) (sym c.loop-i.auto.out)) (many ∙ sym c.requires) c.loop-i.invariant c.index-out-i.is

@@ -7,7 +7,7 @@ use Rattle.mlu_ring.proofs.Logical.{length-logical, get_or-logical}
 use Rattle.mlu_eq.proofs.Compressions.{back_of_nothing}
 use Rattle.mlu_eq.proofs.Lengths.{last_place}
 use Rattle.mlu_eq.proofs.RowsShifted.{rows_and_last, back-read_on}
-use Rattle.mlu_eq.proofs.split.shifted.compress_shifted_by_packed.Goals as goal
+use Rattle.mlu_eq.proofs.split.shifted.row_dots_shifted.Goals as goal
 
 pub returns-in_default : goal.returns-in_default
 returns-in_default g c =

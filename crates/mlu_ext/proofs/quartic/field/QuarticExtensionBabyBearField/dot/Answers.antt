@@ -3,7 +3,7 @@ use Rattle.std.proofs.Common.{◌∙◌}
 use Rattle.mlu_lanes.specs.BabyBear.{baby_bear_ring, baby_bear_laws}
 use Rattle.mlu_ext.specs.QuarticLaws.{quartic_same}
 use Rattle.mlu_ext.proofs.QuarticDots.{joined-dot}
-use Rattle.mlu_ext.proofs.quartic.dot.QuarticExtension+BabyBear+W.dot.Goals as goal
+use Rattle.mlu_ext.proofs.quartic.field.QuarticExtensionBabyBearField.dot.Goals as goal
 
 pub returns : goal.returns
 returns g c =
