@@ -6,8 +6,9 @@
 ghost use Rattle.std.specs.Prelude.{◌≡◌};
 ghost use Rattle.mlu_eq.specs.Combine.{combined, interpolated};
 
-use mlu_kernel::one_row::scale_by_packing;
-use mlu_ring::{Additive, Algebra, ExtensionField, Field, PrimeCharacteristicRing};
+use mlu_ring::{
+    Additive, Algebra, ExtensionField, Field, PrimeCharacteristicRing, scale_by_packing,
+};
 
 /// `low + r * (high - low)`.
 #[inline(always)]

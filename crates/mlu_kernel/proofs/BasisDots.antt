@@ -9,7 +9,7 @@ use Rattle.mlu_ring.specs.Lanes.{logical}
 use Rattle.mlu_ring.proofs.Tabulated.{get_or-tabulate}
 use Rattle.mlu_ring.proofs.Totals.{pair-nil, pair-cons, pair-append, pair-take, total-zero, total-sum, total-product}
 use Rattle.mlu_kernel.specs.Columns.{column, columns}
-use Rattle.mlu_kernel.proofs.PackedCoefficients.{IsPackedExtension, coefficient-zero, coefficient-sum, coefficient-scale, by_coefficients}
+use Rattle.mlu_ring.proofs.PackedCoefficients.{IsPackedExtension, coefficient-zero, coefficient-sum, coefficient-scale, by_coefficients}
 
 module _ {B E P Q : Type 0} {base : Ring B} {ext : Ring E} {packing : Ring P} {packed : Ring Q} {width dimension : ℕ} {lanes : P → List B} {of_lanes : List B → P} {coefficients : E → List B} {ext_lanes : Q → List E} {of_ext_lanes : List E → Q} {packed_coefficients : Q → List P} {of_packed_coefficients : List P → Q} {embed : B → E} {embed_packing : P → Q} (laws : IsPackedExtension base ext packing packed width dimension lanes of_lanes coefficients ext_lanes of_ext_lanes packed_coefficients of_packed_coefficients embed embed_packing) where
   -- packed coefficient c of a packed dot is the dot of column c

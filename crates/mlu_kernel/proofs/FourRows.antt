@@ -15,7 +15,7 @@ use Rattle.mlu_ring.proofs.Joined.{front-entry}
 use Rattle.mlu_ring.proofs.Rows.{row-fits, map-row_at}
 use Rattle.mlu_ring.proofs.Logical.{length-logical, block-logical, get_or-logical, zip_block_more}
 use Rattle.mlu_kernel.specs.Kernels.{plus_rows}
-use Rattle.mlu_kernel.proofs.PackedCoefficients.{IsPackedExtension, coefficient-sum, coefficient-scale, coefficient-zero, by_coefficients}
+use Rattle.mlu_ring.proofs.PackedCoefficients.{IsPackedExtension, coefficient-sum, coefficient-scale, coefficient-zero, by_coefficients}
 use Rattle.mlu_kernel.proofs.PlusRows.{within, length-front, plus_rows_by_entry, plus_rows-front, plus_rows-append}
 
 -- the dot of the blocks with coefficient k of the weights, for each k

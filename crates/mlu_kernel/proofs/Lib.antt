@@ -2,7 +2,6 @@ pub mod DoubleSums
 pub mod Blocks
 pub mod LaneDots
 pub mod PlusRows
-pub mod PackedCoefficients
 pub mod BasisDots
 pub mod Columns
 pub mod FourRows

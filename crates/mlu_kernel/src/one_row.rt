@@ -8,25 +8,8 @@ ghost use Rattle.mlu_kernel.specs.Kernels.{plus_rows};
 
 use mlu_ring::{
     Additive, Algebra, ExtensionField, Field, Lanewise, PackedFieldExtension, PackedValue,
-    row_of_width,
+    row_of_width, scale_by_packing,
 };
-
-/// The product with a packing of the base: one product in lanes for each coefficient.
-#[inline]
-pub fn scale_by_packing<F: Field, EF: ExtensionField<F>>(
-    packed: EF::ExtensionPacking,
-    factor: F::Packing,
-) -> EF::ExtensionPacking
-    ensures { result ≡ EF.ExtensionPacking.ring.product packed
-        (⟦<EF::ExtensionPacking as Algebra<F::Packing>>⟧.embed factor) }
-{
-    let mut scaled = packed;
-    for k in 0..EF::DIMENSION {
-        let product = F::lanes_mul(packed.packed_coefficient(k), factor);
-        scaled.set_packed_coefficient(k, product);
-    }
-    scaled
-}
 
 /// The packed weights times a row: a value whose lanes add up to the dot. Asks for as many entries
 /// as the weights have lanes.

@@ -3,14 +3,16 @@ ghost use Rattle.std.specs.Prelude.{◌≡◌, ◌<◌, ◌*◌, IfOk, length};
 
 use crate::both_forms::{both_forms_agree, both_forms_agree_at_few};
 use mlu_ext::{ProductAlgebra, QuarticExtension};
-use mlu_kernel::one_row::{lane_sum, row_dot_in_lanes, scale_by_packing};
+use mlu_kernel::one_row::{lane_sum, row_dot_in_lanes};
 use mlu_kernel::rows::row_dots;
 use mlu_kernel::{
     compress_hi_dot_packed, compress_hi_dot_packed_eager, compress_prefix_to_packed_packed,
     compress_prefix_to_packed_packed_kernel_eager,
 };
 use mlu_lanes::{BabyBear, LaneWidth, Lanes};
-use mlu_ring::{Additive, Algebra, ExtensionField, Field, Lanewise, PackedValue, Sample};
+use mlu_ring::{
+    Additive, Algebra, ExtensionField, Field, Lanewise, PackedValue, Sample, scale_by_packing,
+};
 use mlu_test_support::draws::drawn;
 use mlu_test_support::lanes::packed;
 use mlu_test_support::numbers::{element, elements};

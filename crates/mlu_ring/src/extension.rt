@@ -139,3 +139,20 @@ pub trait PackedFieldExtension<F: Field, EF: ExtensionField<F>>: PrimeCharacteri
         → slice_index_or (EF.coefficients (slice_index_or (ext_lanes p) k EF.ring.zero)) c F.ring.zero
         ≡ slice_index_or (F.Packing.lanes (slice_index_or (packed_coefficients p) c F.Packing.ring.zero)) k F.ring.zero };
 }
+
+/// The product with a packing of the base: one product in lanes for each coefficient.
+#[inline]
+pub fn scale_by_packing<F: Field, EF: ExtensionField<F>>(
+    packed: EF::ExtensionPacking,
+    factor: F::Packing,
+) -> EF::ExtensionPacking
+    ensures { result ≡ EF.ExtensionPacking.ring.product packed
+        (⟦<EF::ExtensionPacking as Algebra<F::Packing>>⟧.embed factor) }
+{
+    let mut scaled = packed;
+    for k in 0..EF::DIMENSION {
+        let product = F::lanes_mul(packed.packed_coefficient(k), factor);
+        scaled.set_packed_coefficient(k, product);
+    }
+    scaled
+}

@@ -30,7 +30,7 @@ pub use affine::AffineInEach;
 pub use algebra::{Algebra, SelfAlgebra};
 pub use conversion::{MapFrom, RingMapFrom};
 pub use ext_lanes::ExtLanes;
-pub use extension::{ExtensionField, PackedFieldExtension};
+pub use extension::{ExtensionField, PackedFieldExtension, scale_by_packing};
 pub use field::{Field, dot4, mixed_dot4};
 pub use logarithm::{log2_ceil_usize, log2_strict_usize};
 pub use matrix::{RowMajorMatrix, RowMajorMatrixView};

@@ -4,7 +4,7 @@ ghost use Rattle.std.specs.Prelude.{◌≡◌, replicate};
 use crate::evaluator::{EmbeddedCoordinates, EqualityEvaluator};
 use mlu_ring::{
     Additive, Algebra, ExtensionField, Field, PackedFieldExtension, PackedValue,
-    PrimeCharacteristicRing,
+    PrimeCharacteristicRing, scale_by_packing,
 };
 use std::marker::PhantomData;
 
@@ -55,7 +55,7 @@ impl<F: Field, EF: ExtensionField<F>> PackedEvaluator<F, F, EF> for EmbeddedCoor
     #[inline]
     fn multiply_packed(share: EF::ExtensionPacking, coordinate: F) -> EF::ExtensionPacking {
         let splat = <F::Packing as PackedValue>::splat(coordinate);
-        <EF::ExtensionPacking as Algebra<F::Packing>>::scale(share, splat)
+        scale_by_packing::<F, EF>(share, splat)
     }
 
     ghost in_every_lane = { lanes-of_splat F.Packing.lanes_are EF.ExtensionPacking.ext_lanes

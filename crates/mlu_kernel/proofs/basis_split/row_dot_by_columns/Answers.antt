@@ -2,7 +2,7 @@ use Rattle.std.proofs.Common.{◌≡◌, ◌∙◌, List, length, map, take, ap,
 use Rattle.mlu_ring.specs.Lanes.{logical}
 use Rattle.mlu_ring.specs.Tables.{pair}
 use Rattle.mlu_kernel.proofs.BasisDots.{total-dots_of_columns}
-use Rattle.mlu_kernel.proofs.PackedCoefficients.{packed_extension}
+use Rattle.mlu_ring.proofs.PackedCoefficients.{packed_extension}
 use Rattle.mlu_kernel.proofs.basis_split.row_dot_by_columns.Goals as goal
 
 pub returns : goal.returns

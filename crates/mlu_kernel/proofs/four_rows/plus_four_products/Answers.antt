@@ -3,7 +3,7 @@ use Rattle.mlu_ring.specs.Lanes.{splat_of}
 use Rattle.mlu_ring.specs.Tables.{pair}
 use Rattle.mlu_ring.proofs.Tabulated.{length-tabulate, get_or-tabulate}
 use Rattle.mlu_ring.proofs.Zips.{zip_step, zip_whole}
-use Rattle.mlu_kernel.proofs.PackedCoefficients.{packed_extension}
+use Rattle.mlu_ring.proofs.PackedCoefficients.{packed_extension}
 use Rattle.mlu_kernel.proofs.FourRows.{products_of, map-four, plus_rows-products}
 use Rattle.mlu_kernel.proofs.four_rows.plus_four_products.Goals as goal
 

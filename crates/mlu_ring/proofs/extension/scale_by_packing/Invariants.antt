@@ -1,5 +1,5 @@
 use Rattle.std.proofs.Common.{◌≡◌, ℕ, ◌<◌, get_or}
-use Rattle.mlu_kernel.proofs.one_row.scale_by_packing.Given as goal
+use Rattle.mlu_ring.proofs.extension.scale_by_packing.Given as goal
 
 abbrev pub invariant-loop-k : goal.invariant-loop-k
 invariant-loop-k g l =

@@ -1,6 +1,6 @@
 use Rattle.std.proofs.Common.{◌≢◌, ◌<◌, ◌∙◌, length, get_or, ap, sym, arith, below_more, get_or-set_other, get_or-set_same}
-use Rattle.mlu_kernel.proofs.PackedCoefficients.{packed_extension, by_coefficients, coefficient-scale}
-use Rattle.mlu_kernel.proofs.one_row.scale_by_packing.Goals as goal
+use Rattle.mlu_ring.proofs.PackedCoefficients.{packed_extension, by_coefficients, coefficient-scale}
+use Rattle.mlu_ring.proofs.extension.scale_by_packing.Goals as goal
 
 pub loop-k-preserved : goal.loop-k-preserved
 loop-k-preserved g c =
