@@ -4,7 +4,7 @@ ghost use Rattle.std.specs.Prelude.{◌≡◌, ℕ, ◌+◌, ◌-◌, ◌*◌, �
 use std::simd::prelude::*;
 
 /// The word in every lane.
-#[inline(always)]
+#[inline]
 pub fn all<const W: usize>(word: u32) -> Simd<u32, W>
     ensures { (j : ℕ) → j < W → slice_index result j ≡ word }
 {
@@ -12,7 +12,7 @@ pub fn all<const W: usize>(word: u32) -> Simd<u32, W>
 }
 
 /// The sums, which wrap round.
-#[inline(always)]
+#[inline]
 pub fn sums<const W: usize>(a: Simd<u32, W>, b: Simd<u32, W>) -> Simd<u32, W>
     ensures { (j : ℕ) → j < W → slice_index result j ≡ (slice_index a.entry j + slice_index b.entry j) % 2 ^ 32 }
 {
@@ -20,7 +20,7 @@ pub fn sums<const W: usize>(a: Simd<u32, W>, b: Simd<u32, W>) -> Simd<u32, W>
 }
 
 /// The differences, which wrap round.
-#[inline(always)]
+#[inline]
 pub fn differences<const W: usize>(a: Simd<u32, W>, b: Simd<u32, W>) -> Simd<u32, W>
     ensures { (j : ℕ) → j < W → slice_index result j ≡ (slice_index a.entry j + 2 ^ 32 - slice_index b.entry j) % 2 ^ 32 }
 {
@@ -28,7 +28,7 @@ pub fn differences<const W: usize>(a: Simd<u32, W>, b: Simd<u32, W>) -> Simd<u32
 }
 
 /// The lesser word of each lane.
-#[inline(always)]
+#[inline]
 pub fn least<const W: usize>(a: Simd<u32, W>, b: Simd<u32, W>) -> Simd<u32, W>
     ensures { (j : ℕ) → j < W → slice_index result j ≡ min (slice_index a.entry j) (slice_index b.entry j) }
 {
@@ -36,7 +36,7 @@ pub fn least<const W: usize>(a: Simd<u32, W>, b: Simd<u32, W>) -> Simd<u32, W>
 }
 
 /// The lanes at twice their bits.
-#[inline(always)]
+#[inline]
 pub fn widened<const W: usize>(words: Simd<u32, W>) -> Simd<u64, W>
     ensures { (j : ℕ) → j < W → slice_index result j ≡ slice_index words.entry j }
 {
@@ -44,7 +44,7 @@ pub fn widened<const W: usize>(words: Simd<u32, W>) -> Simd<u64, W>
 }
 
 /// The lanes at half of their bits. Asks that they fit.
-#[inline(always)]
+#[inline]
 pub fn narrowed<const W: usize>(words: Simd<u64, W>) -> Simd<u32, W>
     requires { (j : ℕ) → j < W → slice_index words j < 2 ^ 32 }
     ensures { (j : ℕ) → j < W → slice_index result j ≡ slice_index words.entry j }
@@ -53,7 +53,7 @@ pub fn narrowed<const W: usize>(words: Simd<u64, W>) -> Simd<u32, W>
 }
 
 /// The wide word in every lane.
-#[inline(always)]
+#[inline]
 pub fn wide_all<const W: usize>(word: u64) -> Simd<u64, W>
     ensures { (j : ℕ) → j < W → slice_index result j ≡ word }
 {
@@ -61,7 +61,7 @@ pub fn wide_all<const W: usize>(word: u64) -> Simd<u64, W>
 }
 
 /// The sums. Asks that they fit.
-#[inline(always)]
+#[inline]
 pub fn wide_sums<const W: usize>(a: Simd<u64, W>, b: Simd<u64, W>) -> Simd<u64, W>
     requires { (j : ℕ) → j < W → slice_index a j + slice_index b j < 2 ^ 64 }
     ensures { (j : ℕ) → j < W → slice_index result j ≡ slice_index a.entry j + slice_index b.entry j }
@@ -70,7 +70,7 @@ pub fn wide_sums<const W: usize>(a: Simd<u64, W>, b: Simd<u64, W>) -> Simd<u64, 
 }
 
 /// The differences. Asks that none is negative.
-#[inline(always)]
+#[inline]
 pub fn wide_differences<const W: usize>(a: Simd<u64, W>, b: Simd<u64, W>) -> Simd<u64, W>
     requires { (j : ℕ) → j < W → slice_index b j ≤ slice_index a j }
     ensures { (j : ℕ) → j < W → slice_index result j ≡ slice_index a.entry j - slice_index b.entry j }
@@ -79,7 +79,7 @@ pub fn wide_differences<const W: usize>(a: Simd<u64, W>, b: Simd<u64, W>) -> Sim
 }
 
 /// The products of lanes that fit 32 bits, as this asks.
-#[inline(always)]
+#[inline]
 pub fn wide_products<const W: usize>(a: Simd<u64, W>, b: Simd<u64, W>) -> Simd<u64, W>
     requires { (j : ℕ) → j < W → (slice_index a j < 2 ^ 32) × (slice_index b j < 2 ^ 32) }
     ensures { (j : ℕ) → j < W → slice_index result j ≡ slice_index a.entry j * slice_index b.entry j }
@@ -88,7 +88,7 @@ pub fn wide_products<const W: usize>(a: Simd<u64, W>, b: Simd<u64, W>) -> Simd<u
 }
 
 /// The lanes without their lowest bits. Asks for fewer than 64.
-#[inline(always)]
+#[inline]
 pub fn shifted_right<const W: usize>(words: Simd<u64, W>, bits: u64) -> Simd<u64, W>
     requires { bits < 64 }
     ensures { (j : ℕ) → j < W → slice_index result j ≡ slice_index words.entry j / 2 ^ bits }
@@ -98,7 +98,7 @@ pub fn shifted_right<const W: usize>(words: Simd<u64, W>, bits: u64) -> Simd<u64
 
 /// The lanes without their lowest bits, in each as many as its lane of `bits` says. Asks for fewer
 /// than 64.
-#[inline(always)]
+#[inline]
 fn each_shifted_right<const W: usize>(words: Simd<u64, W>, bits: Simd<u64, W>) -> Simd<u64, W>
     requires { (j : ℕ) → j < W → slice_index bits j < 64 }
     ensures { (j : ℕ) → j < W → slice_index result j ≡ slice_index words.entry j / 2 ^ slice_index bits.entry j }
@@ -107,7 +107,7 @@ fn each_shifted_right<const W: usize>(words: Simd<u64, W>, bits: Simd<u64, W>) -
 }
 
 /// The lower half of each lane.
-#[inline(always)]
+#[inline]
 pub fn lower_halves<const W: usize>(words: Simd<u64, W>) -> Simd<u64, W>
     ensures { (j : ℕ) → j < W → slice_index result j ≡ slice_index words.entry j % 2 ^ 32 }
 {
@@ -115,7 +115,7 @@ pub fn lower_halves<const W: usize>(words: Simd<u64, W>) -> Simd<u64, W>
 }
 
 /// The bits of each lane that its mask has too.
-#[inline(always)]
+#[inline]
 fn masked<const W: usize>(words: Simd<u64, W>, mask: Simd<u64, W>) -> Simd<u64, W>
     ensures { (j : ℕ) → j < W → slice_index result j ≡ bit_and (slice_index words.entry j) (slice_index mask.entry j) }
 {

@@ -196,7 +196,7 @@ impl<R: PrimeCharacteristicRing> PrimeCharacteristicRing for QuarticExtension<R>
 }
 
 /// `constant + linear X + quadratic X^2 + cubic X^3`, each given by its coefficients.
-#[inline(always)]
+#[inline]
 pub(super) fn joined_powers<R: Additive>(
     constant: (R, R, R, R),
     linear: (R, R, R, R),
@@ -214,7 +214,7 @@ pub(super) fn joined_powers<R: Additive>(
 }
 
 /// What the coefficients of X, X^2 and X^3 become where their powers wrap: eleven times as much.
-#[inline(always)]
+#[inline]
 pub(super) fn wrapped<R: Additive>(b: QuarticExtension<R>) -> (R, R, R)
     ensures linear { result.0 ≡ R.ring.product (eleven R.ring) b.c1 }
     ensures quadratic { result.1 ≡ R.ring.product (eleven R.ring) b.c2 }
@@ -224,7 +224,7 @@ pub(super) fn wrapped<R: Additive>(b: QuarticExtension<R>) -> (R, R, R)
 }
 
 /// Eleven times x, as 8 x + 2 x + x.
-#[inline(always)]
+#[inline]
 fn times_eleven<R: Additive>(x: R) -> R
     ensures { result ≡ R.ring.product (eleven R.ring) x }
 {

@@ -20,7 +20,7 @@ const INVERSE: u64 = 2281701377;
 /// A column of residues times `2^32`: factors of sums for [`reduce_prepared`].
 ///
 /// One by one, so that the compiler prepares an element that stands in several columns once.
-#[inline(always)]
+#[inline]
 pub fn prepared<const W: usize>(
     column: &(BabyBear<W>, BabyBear<W>, BabyBear<W>, BabyBear<W>),
 ) -> [u32; 4]
@@ -39,7 +39,7 @@ pub fn prepared<const W: usize>(
 }
 
 /// The residue of the product with `2^32`.
-#[inline(always)]
+#[inline]
 fn prepared_word(residue: u32) -> u32
     requires { residue < MODULUS }
     ensures value { result ≡ residue * FOLD % MODULUS }
@@ -50,7 +50,7 @@ fn prepared_word(residue: u32) -> u32
 
 /// The residues whose product with `2^32` has the residue of the lane. Asks for lanes that are at
 /// most the sum of four products of residues.
-#[inline(always)]
+#[inline]
 pub fn reduce_prepared<const W: usize>(words: Simd<u64, W>) -> Simd<u32, W>
     requires { (j : ℕ) → j < W → slice_index words j < 4 * MODULUS * MODULUS }
     ensures least { (j : ℕ) → j < W → slice_index result j < MODULUS }
@@ -60,7 +60,7 @@ pub fn reduce_prepared<const W: usize>(words: Simd<u64, W>) -> Simd<u32, W>
 }
 
 /// The multiples of the modulus that have the lower halves of the lanes, over the modulus.
-#[inline(always)]
+#[inline]
 fn low_quotients<const W: usize>(words: Simd<u64, W>) -> Simd<u64, W>
     requires { (j : ℕ) → j < W → slice_index words j < 2 ^ 64 }
     ensures { (j : ℕ) → j < W → slice_index result j ≡ slice_index words.entry j % 2 ^ 32 * INVERSE % 2 ^ 32 }
@@ -69,7 +69,7 @@ fn low_quotients<const W: usize>(words: Simd<u64, W>) -> Simd<u64, W>
 }
 
 /// The upper halves of these multiples.
-#[inline(always)]
+#[inline]
 fn carried<const W: usize>(quotients: Simd<u64, W>) -> Simd<u32, W>
     requires { (j : ℕ) → j < W → slice_index quotients j < 2 ^ 32 }
     ensures { (j : ℕ) → j < W → slice_index result j ≡ slice_index quotients.entry j * MODULUS / 2 ^ 32 }
@@ -79,7 +79,7 @@ fn carried<const W: usize>(quotients: Simd<u64, W>) -> Simd<u32, W>
 }
 
 /// The residues of the upper halves.
-#[inline(always)]
+#[inline]
 fn upper_residues<const W: usize>(words: Simd<u64, W>) -> Simd<u32, W>
     requires { (j : ℕ) → j < W → slice_index words j < 4 * MODULUS * MODULUS }
     ensures { (j : ℕ) → j < W → slice_index result j ≡ slice_index words.entry j / 2 ^ 32 % MODULUS }
@@ -88,7 +88,7 @@ fn upper_residues<const W: usize>(words: Simd<u64, W>) -> Simd<u32, W>
 }
 
 /// The differences of residues, as residues.
-#[inline(always)]
+#[inline]
 fn residue_differences<const W: usize>(a: Simd<u32, W>, b: Simd<u32, W>) -> Simd<u32, W>
     requires { (j : ℕ) → j < W → (slice_index a j < MODULUS) × (slice_index b j < MODULUS) }
     ensures { (j : ℕ) → j < W → slice_index result j ≡ (slice_index a.entry j + MODULUS - slice_index b.entry j) % MODULUS }

@@ -10,7 +10,7 @@ use crate::words::{all, wide_products, widened};
 use std::simd::prelude::*;
 
 /// The products of two packed values, unreduced: four of them add up to a word.
-#[inline(always)]
+#[inline]
 pub fn products<const W: usize>(
     a: &Lanes<BabyBear<W>, W>,
     b: &Lanes<BabyBear<W>, W>,
@@ -22,7 +22,7 @@ pub fn products<const W: usize>(
 }
 
 /// The products with one element, unreduced: four of them add up to a word.
-#[inline(always)]
+#[inline]
 pub fn scaled<const W: usize>(p: &Lanes<BabyBear<W>, W>, c: BabyBear<W>) -> Simd<u64, W>
     ensures value { (j : ℕ) → j < W → slice_index result j ≡ residue p.now j * canonical c.entry }
     ensures small { (j : ℕ) → j < W → slice_index result j < 2 ^ 62 }
@@ -31,7 +31,7 @@ pub fn scaled<const W: usize>(p: &Lanes<BabyBear<W>, W>, c: BabyBear<W>) -> Simd
 }
 
 /// The packed value of words below 2^62, as products are.
-#[inline(always)]
+#[inline]
 pub fn product_reduced<const W: usize>(words: Simd<u64, W>) -> Lanes<BabyBear<W>, W>
     requires { (j : ℕ) → j < W → slice_index words j < 2 ^ 62 }
     ensures { (j : ℕ) → j < W → residue result j ≡ slice_index words.entry j % MODULUS }
@@ -40,7 +40,7 @@ pub fn product_reduced<const W: usize>(words: Simd<u64, W>) -> Lanes<BabyBear<W>
 }
 
 /// The packed value of any words, as sums of four products are.
-#[inline(always)]
+#[inline]
 pub fn sum_reduced<const W: usize>(words: Simd<u64, W>) -> Lanes<BabyBear<W>, W>
     requires { (j : ℕ) → j < W → slice_index words j < 2 ^ 64 }
     ensures { (j : ℕ) → j < W → residue result j ≡ slice_index words.entry j % MODULUS }
@@ -49,7 +49,7 @@ pub fn sum_reduced<const W: usize>(words: Simd<u64, W>) -> Lanes<BabyBear<W>, W>
 }
 
 /// The products of residues lane by lane, unreduced: four of them add up to a word.
-#[inline(always)]
+#[inline]
 pub fn residue_products<const W: usize>(a: Simd<u32, W>, b: Simd<u32, W>) -> Simd<u64, W>
     requires { (j : ℕ) → j < W → (slice_index a j < MODULUS) × (slice_index b j < MODULUS) }
     ensures value { (j : ℕ) → j < W → slice_index result j ≡ slice_index a.entry j * slice_index b.entry j }
@@ -60,7 +60,7 @@ pub fn residue_products<const W: usize>(a: Simd<u32, W>, b: Simd<u32, W>) -> Sim
 }
 
 /// The least residues of the lanes. The compiler makes one load of the loop.
-#[inline(always)]
+#[inline]
 fn words_of<const W: usize>(p: &Lanes<BabyBear<W>, W>) -> Simd<u32, W>
     ensures value { (j : ℕ) → j < W → slice_index result j ≡ residue p.now j }
     ensures least { (j : ℕ) → j < W → slice_index result j < MODULUS }
@@ -74,7 +74,7 @@ fn words_of<const W: usize>(p: &Lanes<BabyBear<W>, W>) -> Simd<u32, W>
 }
 
 /// The packed value with these least residues. The compiler makes one store of the loop.
-#[inline(always)]
+#[inline]
 fn lanes_of<const W: usize>(residues: Simd<u32, W>) -> Lanes<BabyBear<W>, W>
     requires { (j : ℕ) → j < W → slice_index residues j < MODULUS }
     ensures { (j : ℕ) → j < W → residue result j ≡ slice_index residues.entry j }

@@ -9,7 +9,7 @@ pub const RECIPROCAL: u64 = 2290649223;
 /// The residue of `x`. Asks that `x` is below twice the modulus.
 ///
 /// Where `x` is below the modulus, the difference wraps round and is the greater one.
-#[inline(always)]
+#[inline]
 pub fn reduce_once(x: u32) -> u32
     requires { x < 2 * MODULUS }
     ensures { result ≡ x % MODULUS }
@@ -22,7 +22,7 @@ pub fn reduce_once(x: u32) -> u32
 ///
 /// `quotient` is the quotient or one less. The remainder by 2^32 takes nothing away: it says that
 /// 32 bits are enough, and lanes of them can be multiplied at a time.
-#[inline(always)]
+#[inline]
 pub fn reduce_product(x: u64) -> u32
     requires { x < 2 ^ 62 }
     ensures { result ≡ x % MODULUS }
@@ -35,7 +35,7 @@ pub fn reduce_product(x: u64) -> u32
 ///
 /// `2^32` is `2^28 - 2` modulo the modulus, which folds `x` to `folded` below `2^60`. `quotient` is
 /// that of `folded` or one less, and the remainder by 2^32 is as above.
-#[inline(always)]
+#[inline]
 pub fn reduce_word(x: u64) -> u32
     ensures { result ≡ x % MODULUS }
 {

@@ -17,7 +17,7 @@ pub const FOLD: u64 = 268435454;
 /// Folded by a product and shifted by 29, they are seen to fit 32 bits: three vector products a
 /// pair of lanes. For one word `reduce_word` is better, since there the compiler makes wider
 /// products of this.
-#[inline(always)]
+#[inline]
 pub fn reduce_each_word<const W: usize>(words: Simd<u64, W>) -> Simd<u32, W>
     requires { (j : ℕ) → j < W → slice_index words j < 2 ^ 64 }
     ensures { (j : ℕ) → j < W → slice_index result j ≡ slice_index words.entry j % MODULUS }
@@ -30,7 +30,7 @@ pub fn reduce_each_word<const W: usize>(words: Simd<u64, W>) -> Simd<u32, W>
 }
 
 /// Lanes of the same residues, below 2^61.
-#[inline(always)]
+#[inline]
 fn folded<const W: usize>(words: Simd<u64, W>) -> Simd<u64, W>
     requires { (j : ℕ) → j < W → slice_index words j < 2 ^ 64 }
     ensures { (j : ℕ) → j < W → slice_index result j ≡ slice_index words.entry j / 2 ^ 32 * FOLD + slice_index words.entry j % 2 ^ 32 }
@@ -42,7 +42,7 @@ fn folded<const W: usize>(words: Simd<u64, W>) -> Simd<u64, W>
 }
 
 /// The quotients by the modulus, or one less.
-#[inline(always)]
+#[inline]
 fn folded_quotients<const W: usize>(folded: Simd<u64, W>) -> Simd<u64, W>
     requires { (j : ℕ) → j < W → slice_index folded j < 2 ^ 61 }
     ensures { (j : ℕ) → j < W → slice_index result j ≡ slice_index folded.entry j / 2 ^ 29 * RECIPROCAL / 2 ^ 33 }
@@ -55,7 +55,7 @@ fn folded_quotients<const W: usize>(folded: Simd<u64, W>) -> Simd<u64, W>
 /// The residues of lanes below 2^62, as products of two residues are: two vector products a pair of
 /// lanes. As in `reduce_product`, the quotients are those by the modulus, or one less, and taking
 /// the lower halves says that 32 bits are enough.
-#[inline(always)]
+#[inline]
 pub fn reduce_each_product<const W: usize>(words: Simd<u64, W>) -> Simd<u32, W>
     requires { (j : ℕ) → j < W → slice_index words j < 2 ^ 62 }
     ensures { (j : ℕ) → j < W → slice_index result j ≡ slice_index words.entry j % MODULUS }
@@ -68,7 +68,7 @@ pub fn reduce_each_product<const W: usize>(words: Simd<u64, W>) -> Simd<u32, W>
 }
 
 /// The residues of lanes below twice the modulus.
-#[inline(always)]
+#[inline]
 pub fn reduce_each_once<const W: usize>(words: Simd<u32, W>) -> Simd<u32, W>
     requires { (j : ℕ) → j < W → slice_index words j < 2 * MODULUS }
     ensures { (j : ℕ) → j < W → slice_index result j ≡ slice_index words.entry j % MODULUS }

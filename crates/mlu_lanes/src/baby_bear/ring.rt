@@ -227,7 +227,7 @@ impl<const W: usize> BabyBear<W> {
     ghost use Rattle.mlu_lanes.specs.BabyBear.{canonical};
 
     /// The product of the residues, as integers.
-    #[inline(always)]
+    #[inline]
     fn unreduced(self, other: Self) -> u64
         ensures value { result ≡ canonical self.entry * canonical other.entry }
         ensures small { result < 2 ^ 62 }

@@ -13,7 +13,7 @@ use std::simd::prelude::*;
 
 /// Lane `j` is the residue of the sum of the products of `l` and lane `j` of the rows of the
 /// matrix.
-#[inline(always)]
+#[inline]
 pub fn sum_of_rows<const W: usize>(
     l: &(BabyBear<W>, BabyBear<W>, BabyBear<W>, BabyBear<W>),
     rows: &(Simd<u32, 4>, Simd<u32, 4>, Simd<u32, 4>, Simd<u32, 4>),
@@ -30,7 +30,7 @@ pub fn sum_of_rows<const W: usize>(
 }
 
 /// [`sum_of_rows`] of prepared rows.
-#[inline(always)]
+#[inline]
 pub fn sum_of_prepared_rows<const W: usize>(
     l: &(BabyBear<W>, BabyBear<W>, BabyBear<W>, BabyBear<W>),
     rows: &(Simd<u32, 4>, Simd<u32, 4>, Simd<u32, 4>, Simd<u32, 4>),
@@ -48,7 +48,7 @@ pub fn sum_of_prepared_rows<const W: usize>(
 }
 
 /// The sums of the products, as integers.
-#[inline(always)]
+#[inline]
 pub fn unreduced_rows<const W: usize>(
     l: &(BabyBear<W>, BabyBear<W>, BabyBear<W>, BabyBear<W>),
     rows: &(Simd<u32, 4>, Simd<u32, 4>, Simd<u32, 4>, Simd<u32, 4>),
@@ -74,7 +74,7 @@ pub fn unreduced_rows<const W: usize>(
 }
 
 /// The elements with these least residues.
-#[inline(always)]
+#[inline]
 pub fn elements_of<const W: usize>(
     residues: Simd<u32, 4>,
 ) -> (BabyBear<W>, BabyBear<W>, BabyBear<W>, BabyBear<W>)
@@ -94,7 +94,7 @@ pub fn elements_of<const W: usize>(
 }
 
 /// The sums of the residues at four places from `k` on.
-#[inline(always)]
+#[inline]
 pub fn residue_sums_at<const W: usize>(
     a: &[BabyBear<W>],
     b: &[BabyBear<W>],
@@ -181,7 +181,7 @@ pub fn prepared_sums_at<const W: usize>(
 }
 
 /// The least residues at four places from `k` on. The compiler makes one load of them.
-#[inline(always)]
+#[inline]
 fn words_at<const W: usize>(elements: &[BabyBear<W>], k: usize) -> Simd<u32, 4>
     requires { k + 3 < length elements.now }
     ensures value { (j : ℕ) → j < 4 → slice_index result j ≡ residue_at elements.now (k + j) }
@@ -197,7 +197,7 @@ fn words_at<const W: usize>(elements: &[BabyBear<W>], k: usize) -> Simd<u32, 4>
 
 /// Writes the elements with these least residues to four places from `k` on. The compiler makes one
 /// store of them.
-#[inline(always)]
+#[inline]
 pub fn put<const W: usize>(out: &mut [BabyBear<W>], k: usize, residues: Simd<u32, 4>)
     requires room { k + 3 < length out.old }
     requires least { (j : ℕ) → j < 4 → slice_index residues j < MODULUS }

@@ -94,9 +94,12 @@ where
         Lanes { values: lanes }
     }
 
+    // The compiler makes one store of the loop, and copies a slice by way of memory.
     #[inline]
     fn store(&self, out: &mut [F]) {
-        out.copy_from_slice(&self.values);
+        for k in 0..W {
+            out[k] = self.values[k];
+        }
     }
 
     #[inline]
