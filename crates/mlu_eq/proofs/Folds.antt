@@ -1,12 +1,13 @@
 -- Folds of one variable, from what is read of the table.
-use Rattle.std.proofs.Common.{◌≡◌, ℕ, ◌+◌, ◌*◌, ◌/◌, ◌<◌, ◌≤◌, List, [], ◌∷◌, ◌++◌, map, length, get_or, take, drop, refl, sym, ap, ◌∙◌, arith}
-use Rattle.std.proofs.lemmas.List.{ext_get_or, get_or_default, get_or-take, get_or-drop, get_or-map, length-take, length-drop, length-map, take-append-le, take_all}
+use Rattle.std.proofs.Common.{◌≡◌, ℕ, ◌+◌, ◌-◌, ◌*◌, ◌/◌, ◌<◌, ◌≤◌, ◌⊎◌, ⊎_elim, List, [], ◌∷◌, ◌++◌, map, length, get_or, take, drop, refl, sym, ap, ◌∙◌, arith}
+use Rattle.std.proofs.lemmas.List.{ext_get_or, get_or_default, get_or-take, get_or-drop, get_or-map, length-take, length-drop, length-map, length-append, append_assoc, get_or_append_left, get_or-append_right, take-append-le, take_all}
+use Rattle.std.proofs.lemmas.Bool.{cases_lt}
 use Rattle.std.proofs.lemmas.Simd.{get_or-zip2, length-zip2}
 use Rattle.std.specs.Simd.Lanes.{zip2}
 use Rattle.mlu_ring.specs.Ring.{Ring, RingLaws}
 use Rattle.mlu_ring.specs.Tables.{front, back}
 use Rattle.mlu_ring.proofs.Univariate.{length-front}
-use Rattle.mlu_ring.proofs.Folds.{front_of_two-entry, front_by_index, back_by_index}
+use Rattle.mlu_ring.proofs.Folds.{length-back, back_of_two-entry, front_of_two-entry, front_by_index, back_by_index}
 use Rattle.mlu_ring.proofs.Pairs.{read-map}
 use Rattle.mlu_eq.specs.Combine.{combined}
 
@@ -60,20 +61,72 @@ module _ {R : Type 0} (ring : Ring R) (laws : RingLaws ring) where
       ∙ ap (λ t. combined ring u c t (f (get_or es (2 * k + 1) b))) (sym (get_or-map f es (2 * k) b d (omega arith)))
       ∙ ap (λ t. combined ring u c (get_or (map f es) (2 * k) d) t) (sym (get_or-map f es (2 * k + 1) b d (omega arith))))
 
-  -- the two halves added up
-  pub front_added : (e low high rest out : List R) (half : ℕ) → half ≡ length e / 2 → low ≡ take half e → high ≡ take half (drop half e) → out ≡ zip2 ring.sum low high → take half (out ++ rest) ≡ front ring (ring.one ∷ ring.one ∷ []) e
-  front_added e low high rest out half is lower upper added =
+  -- the first entries of a fold over their table, and the others in the places after them
+  pub back_of_parts : (u c : R) (e low pairs folded out after rest : List R) (first half : ℕ) → half ≡ length e / 2 → first ≤ half → half ≤ 2 * first
+      → low ≡ take (2 * first) e → pairs ≡ take (2 * (half - first)) (drop (2 * first) e)
+      → take (length low / 2) folded ≡ back ring (u ∷ c ∷ []) low → length folded ≡ length low → out ≡ back ring (u ∷ c ∷ []) pairs
+      → take half ((take first folded ++ (out ++ after)) ++ rest) ≡ back ring (u ∷ c ∷ []) e
+  back_of_parts u c e low pairs folded out after rest first half is within fits lower upper at_low same at_pairs =
+      let low_long : length low ≡ 2 * first = rw lower (simp length-take (omega arith)) in
+      let pairs_long : length pairs ≡ 2 * (half - first) = rw upper (simp (length-take, length-drop) (omega arith)) in
+      let halves : length low / 2 ≡ first = omega (arith, low_long) in
+      let start : take first folded ≡ back ring (u ∷ c ∷ []) low = ap (λ n. take n folded) (sym halves) ∙ at_low in
+      let start_long : length (take first folded) ≡ first = simp length-take (omega (arith, same, low_long)) in
+      let out_long : length out ≡ half - first = ap length at_pairs ∙ length-back ring (u ∷ c ∷ []) pairs ∙ omega (arith, pairs_long) in
+      let written = take first folded ++ out in
+      let long : length written ≡ half = length-append (take first folded) out ∙ omega (arith, start_long, out_long) in
+      let parts : (take first folded ++ (out ++ after)) ++ rest ≡ written ++ (after ++ rest) =
+      append_assoc (take first folded) (out ++ after) rest ∙ ap (λ l. take first folded ++ l) (append_assoc out after rest) ∙ sym (append_assoc (take first folded) out (after ++ rest)) in
+      let entry : (y : ℕ) → (y < first) ⊎ (first ≤ y) → y < half → get_or written y 𝟘 ≡ combined ring u c (get_or e (2 * y) 𝟘) (get_or e (2 * y + 1) 𝟘) =
+      λ y place h.
+      ⊎_elim
+      (λ before.
+      get_or_append_left (take first folded) out 𝟘 y (omega (arith, start_long))
+      ∙ ap (λ l. get_or l y 𝟘) start
+      ∙ back_of_two-entry ring laws u c low y (omega (arith, halves))
+      ∙ rw (lower, get_or-take (2 * first) e (2 * y) 𝟘 (omega arith), get_or-take (2 * first) e (2 * y + 1) 𝟘 (omega arith)) refl)
+      (λ after_it.
+      let at : 2 * first + 2 * (y - first) ≡ 2 * y = omega arith in
+      let at_next : 2 * first + (2 * (y - first) + 1) ≡ 2 * y + 1 = omega arith in
+      get_or-append_right (take first folded) out first y 𝟘 start_long after_it
+      ∙ ap (λ l. get_or l (y - first) 𝟘) at_pairs
+      ∙ back_of_two-entry ring laws u c pairs (y - first) (omega (arith, pairs_long))
+      ∙ rw (
+        upper,
+        get_or-take (2 * (half - first)) (drop (2 * first) e) (2 * (y - first)) 𝟘 (omega arith),
+        get_or-take (2 * (half - first)) (drop (2 * first) e) (2 * (y - first) + 1) 𝟘 (omega arith),
+        get_or-drop (2 * first) e (2 * (y - first)) 𝟘,
+        get_or-drop (2 * first) e (2 * (y - first) + 1) 𝟘,
+        at,
+        at_next,
+      ) refl)
+      place in
+      ap (take half) parts
+      ∙ take-append-le half written (after ++ rest) (omega (arith, long))
+      ∙ take_all half written (omega (arith, long))
+      ∙ back_by_index ring laws u c e written (long ∙ is) (λ y h. entry y (cases_lt y first) (omega (arith, is)))
+
+  -- the two halves joined place by place
+  pub front_of_halves : (u c : R) (f : R → R → R) → ((a b : R) → f a b ≡ combined ring u c a b)
+      → (e low high rest out : List R) (half : ℕ) → half ≡ length e / 2 → low ≡ take half e → high ≡ take half (drop half e) → out ≡ zip2 f low high
+      → take half (out ++ rest) ≡ front ring (u ∷ c ∷ []) e
+  front_of_halves u c f joins e low high rest out half is lower upper joined =
       let low_long : length low ≡ half = rw lower (simp length-take (omega arith)) in
       let high_long : length high ≡ half = rw upper (simp (length-take, length-drop) (omega arith)) in
-      let long : length out ≡ half = rw added (length-zip2 ring.sum low high (low_long ∙ sym high_long) ∙ low_long) in
+      let long : length out ≡ half = rw joined (length-zip2 f low high (low_long ∙ sym high_long) ∙ low_long) in
       take-append-le half out rest (omega arith)
       ∙ take_all half out (omega arith)
-      ∙ front_by_index ring laws ring.one ring.one e out (long ∙ is)
+      ∙ front_by_index ring laws u c e out (long ∙ is)
       (λ z h.
       let here : z < half = omega arith in
-      rw (added, ← is)
-      (get_or-zip2 ring.sum low high z 𝟘 𝟘 𝟘 (omega arith) (omega arith)
-      ∙ rw (lower, upper, get_or-take half e z 𝟘 here, get_or-take half (drop half e) z 𝟘 here, get_or-drop half e z 𝟘, laws.one_product (get_or e z 𝟘), laws.one_product (get_or e (half + z) 𝟘)) refl))
+      rw (joined, ← is)
+      (get_or-zip2 f low high z 𝟘 𝟘 𝟘 (omega arith) (omega arith)
+      ∙ joins (get_or low z 𝟘) (get_or high z 𝟘)
+      ∙ rw (lower, upper, get_or-take half e z 𝟘 here, get_or-take half (drop half e) z 𝟘 here, get_or-drop half e z 𝟘) refl))
+
+  -- the two halves added up
+  pub front_added : (e low high rest out : List R) (half : ℕ) → half ≡ length e / 2 → low ≡ take half e → high ≡ take half (drop half e) → out ≡ zip2 ring.sum low high → take half (out ++ rest) ≡ front ring (ring.one ∷ ring.one ∷ []) e
+  front_added = front_of_halves ring.one ring.one ring.sum (λ a b. sym (ap (λ t. ring.sum t (ring.product ring.one b)) (laws.one_product a) ∙ ap (ring.sum a) (laws.one_product b)))
 
   -- a run of the fold from the runs of the two halves
   pub front_of_runs : (u c : R) (e : List R) (half width start : ℕ) → half ≡ length e / 2 → start + width ≤ half → zip2 (combined ring u c) (take width (drop start (take half e))) (take width (drop start (drop half e))) ≡ take width (drop start (front ring (u ∷ c ∷ []) e))

@@ -1,9 +1,10 @@
 -- What a loop leaves that writes a function of two lists over the first, block by block.
-use Rattle.std.proofs.Common.{◌≡◌, ℕ, zero, suc, ◌+◌, ◌-◌, ◌*◌, ◌<◌, ◌≤◌, List, [], ◌∷◌, ◌++◌, map, length, take, drop, replicate, ap, ◌∙◌, arith, zero-add, suc-add, refl}
+use Rattle.std.proofs.Common.{◌≡◌, ℕ, zero, suc, ◌+◌, ◌-◌, ◌*◌, ◌<◌, ◌≤◌, List, [], ◌∷◌, ◌++◌, map, length, take, drop, replicate, ap, ◌∙◌, arith, zero-add, suc-add, refl, sym}
 use Rattle.std.specs.Simd.Lanes.{zip2}
-use Rattle.std.proofs.lemmas.List.{drop-drop, length-map}
+use Rattle.std.proofs.lemmas.List.{drop-drop, length-map, length-take, take-append-drop}
 use Rattle.mlu_ring.specs.Ring.{Ring, RingLaws}
-use Rattle.mlu_ring.proofs.Rings.{map-one}
+use Rattle.mlu_ring.proofs.Rings.{map-one, line_by_step}
+use Rattle.mlu_eq.specs.Combine.{combined, interpolated}
 use Rattle.mlu_eq.proofs.Products.{row_end}
 
 module _ {V W : Type 0} (f : V → W → V) where
@@ -44,6 +45,21 @@ module _ {V W : Type 0} (f : V → W → V) where
   zip2-append (u ∷ us) vs [] ys h = absurd (omega arith)
   zip2-append (u ∷ us) vs (x ∷ xs) ys h = ap (λ zs. f u x ∷ zs) (zip2-append us vs xs ys (omega arith))
 
+  -- two lists in two parts at the same place
+  pub zip_halves : (xs : List V) (ys : List W) (m : ℕ) (us vs out other : List V) (ws zs : List W) → length xs ≡ length ys
+      → us ≡ take m xs → vs ≡ drop m xs → ws ≡ take m ys → zs ≡ drop m ys → out ≡ zip2 f us ws → other ≡ zip2 f vs zs → out ++ other ≡ zip2 f xs ys
+  zip_halves xs ys m us vs out other ws zs h first_x last_x first_y last_y is is_other =
+      let long : length us ≡ length ws = rw (first_x, first_y) (simp length-take (rw h refl)) in
+      ap (λ l. l ++ other) is
+      ∙ ap (λ l. zip2 f us ws ++ l) is_other
+      ∙ sym (zip2-append us vs ws zs long)
+      ∙ ap (λ l. zip2 f (l ++ vs) (ws ++ zs)) first_x
+      ∙ ap (λ l. zip2 f (take m xs ++ l) (ws ++ zs)) last_x
+      ∙ ap (λ l. zip2 f (take m xs ++ drop m xs) (l ++ zs)) first_y
+      ∙ ap (λ l. zip2 f (take m xs ++ drop m xs) (take m ys ++ l)) last_y
+      ∙ ap (λ l. zip2 f l (take m ys ++ drop m ys)) (take-append-drop m xs)
+      ∙ ap (zip2 f xs) (take-append-drop m ys)
+
   zip_nil : (ys : List W) → [] ≡ zip2 f [] ys
   zip_nil [] = refl
   zip_nil (y ∷ ys) = refl
@@ -70,3 +86,12 @@ module _ {R : Type 0} (ring : Ring R) (laws : RingLaws ring) where
       ap (λ o. zip2 ring.sum o (map (ring.product s) xs)) zeros
       ∙ zip_zeros n (map (ring.product s) xs) (length-map xs (ring.product s) ∙ long)
       ∙ map-one ring laws s xs is
+
+  -- lines by their differences
+  pub zip_lines : (r : R) (lows highs : List R) → length lows ≡ length highs → zip2 (combined ring ring.one r) lows (zip2 ring.minus highs lows) ≡ zip2 (interpolated ring r) lows highs
+  zip_lines r [] [] h = refl
+  zip_lines r [] (y ∷ ys) h = absurd (omega arith)
+  zip_lines r (x ∷ xs) [] h = absurd (omega arith)
+  zip_lines r (x ∷ xs) (y ∷ ys) h =
+      let step = ap (λ t. ring.sum t (ring.product r (ring.minus y x))) (laws.one_product x) ∙ line_by_step ring laws x y r in
+      ap (λ z. z ∷ zip2 (combined ring ring.one r) xs (zip2 ring.minus ys xs)) step ∙ ap (λ zs. interpolated ring r x y ∷ zs) (zip_lines r xs ys (omega arith))

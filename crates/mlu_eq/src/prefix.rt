@@ -4,15 +4,22 @@
 ghost use Rattle.std.specs.Prelude.{◌≡◌, ◌+◌, ◌<◌, ◌≤◌, ◌/◌, ◌%◌, [], ◌∷◌, IfOk, IsOk, drop, length, map, slice_index_or, take};
 ghost use Rattle.mlu_ring.specs.Lanes.{logical};
 ghost use Rattle.mlu_ring.specs.Tables.{front, line};
+ghost use Rattle.mlu_eq.specs.Combine.{interpolated};
+ghost use Rattle.std.specs.Simd.Lanes.{zip2};
 
 use crate::line::{
     add_scaled, interpolate_at_base, interpolate_base_at_fixed, interpolate_packing,
 };
+use mlu_ring::place_by_place::sub_each;
 use mlu_ring::{
     Additive, Algebra, ExtensionField, Field, PackedFieldExtension, PackedValue,
     PrimeCharacteristicRing,
 };
 use std::alloc::{AllocError, Global};
+use std::mem::{size_of, size_of_val};
+
+/// The entries of a block: both halves of one stay in the nearest cache.
+const BLOCK: usize = 128;
 
 /// The table folded at `r`: entry `i` is `low[i] + r * (high[i] - low[i])`, where `low` and `high`
 /// are the two halves.
@@ -96,8 +103,40 @@ pub fn fold_prefix_in_place<R: Additive, F: Algebra<R>>(entries: &mut [F], r: R)
     ensures { take (length entries.old / 2) entries.new ≡ front F.ring (line F.ring (F.embed r)) entries.old }
 {
     let half = entries.len() / 2;
-    for i in 0..half {
-        entries[i] = interpolate_at_base(entries[i], entries[half + i], r);
+    let (low, high) = entries.split_at_mut(half);
+    interpolate_each(low, &mut high[..half], r);
+}
+
+/// Entry `i` of `low` becomes `low[i] + r * (high[i] - low[i])`. What `high` then holds is not
+/// promised. Asks for slices of one length.
+fn interpolate_each<R: Additive, F: Algebra<R>>(low: &mut [F], high: &mut [F], r: R)
+    requires { length low.old ≡ length high.old }
+    ensures { low.new ≡ zip2 (interpolated F.ring (F.embed r)) low.old high.old }
+{
+    if size_of_val(&r) > size_of::<usize>() {
+        return interpolate_by_differences(low, high, r);
+    }
+    for i in 0..low.len() {
+        low[i] = interpolate_at_base(low[i], high[i], r);
+    }
+}
+
+/// [`interpolate_each`] at an `r` of several words. The differences of a block are made first, so
+/// that their words fill vectors.
+fn interpolate_by_differences<R: Additive, F: Algebra<R>>(low: &mut [F], high: &mut [F], r: R)
+    requires { length low.old ≡ length high.old }
+    ensures { low.new ≡ zip2 (interpolated F.ring (F.embed r)) low.old high.old }
+{
+    if low.len() > BLOCK {
+        let middle = low.len() / 2;
+        let (low, other_low) = low.split_at_mut(middle);
+        let (high, other_high) = high.split_at_mut(middle);
+        interpolate_by_differences(low, high, r);
+        return interpolate_by_differences(other_low, other_high, r);
+    }
+    sub_each(high, low);
+    for i in 0..low.len() {
+        low[i] = add_scaled(low[i], high[i], r);
     }
 }
 

@@ -1,12 +1,15 @@
 //! Folds of the last variable, which join the entries of a table that stand side by side.
 //!
 //! Where the number of entries is odd, the last one is left out.
-ghost use Rattle.std.specs.Prelude.{◌≡◌, ◌/◌, ◌<◌, IfOk, IsOk, length, map, take};
+ghost use Rattle.std.specs.Prelude.{◌≡◌, ◌/◌, ◌*◌, ◌<◌, IfOk, IsOk, length, map, take};
 ghost use Rattle.mlu_ring.specs.Tables.{back, line};
 
 use crate::line::{interpolate_at_base, interpolate_base_at_fixed};
 use mlu_ring::{Additive, Algebra, PrimeCharacteristicRing};
 use std::alloc::{AllocError, Global};
+
+/// The entries that are folded one by one.
+const SINGLE_ENTRIES: usize = 16;
 
 /// The table folded at `r`: entry `i` is `e[2i] + r * (e[2i + 1] - e[2i])`.
 ///
@@ -49,11 +52,41 @@ pub fn fold_suffix_by_base<R: Additive, F: Algebra<R>>(
 
 /// Folds the table at `r` into its lower half: entry `i` becomes `e[2i] + r * (e[2i + 1] - e[2i])`.
 /// What the other places then hold is not promised.
+///
+/// The first entries are folded first. The others are then read where nothing is written, so that
+/// many are folded at a time.
 pub fn fold_suffix_in_place<R: Additive, F: Algebra<R>>(entries: &mut [F], r: R)
+    ensures { take (length entries.old / 2) entries.new ≡ back F.ring (line F.ring (F.embed r)) entries.old }
+{
+    let half = entries.len() / 2;
+    if half <= SINGLE_ENTRIES {
+        return fold_entries_in_place(entries, r);
+    }
+    let first = half.div_ceil(2);
+    let (low, pairs) = entries.split_at_mut(2 * first);
+    fold_suffix_in_place(low, r);
+    fold_pairs(&mut low[first..half], &pairs[..2 * (half - first)], r);
+}
+
+/// [`fold_suffix_in_place`], entry by entry.
+fn fold_entries_in_place<R: Additive, F: Algebra<R>>(entries: &mut [F], r: R)
     ensures { take (length entries.old / 2) entries.new ≡ back F.ring (line F.ring (F.embed r)) entries.old }
 {
     let half = entries.len() / 2;
     for i in 0..half {
         entries[i] = interpolate_at_base(entries[2 * i], entries[2 * i + 1], r);
+    }
+}
+
+/// Writes the fold of the pairs at `r`. Asks for as many places as there are pairs.
+///
+/// Out of line, where the compiler takes the slices for two and makes vectors of the entries.
+#[inline(never)]
+fn fold_pairs<R: Additive, F: Algebra<R>>(out: &mut [F], pairs: &[F], r: R)
+    requires { length pairs.now ≡ 2 * length out.old }
+    ensures { out.new ≡ back F.ring (line F.ring (F.embed r)) pairs.now }
+{
+    for i in 0..out.len() {
+        out[i] = interpolate_at_base(pairs[2 * i], pairs[2 * i + 1], r);
     }
 }

@@ -13,7 +13,7 @@ mod values;
 
 use mlu_ext::QuarticExtension;
 use mlu_lanes::{BabyBear, LaneWidth, Lanes, WrappingU64};
-use mlu_ring::{Additive, ExtensionField, Field, Lanewise, PackedValue, Sample};
+use mlu_ring::{Additive, ExtensionField, Field, Lanewise, PackedValue, Sample, SelfAlgebra};
 use std::alloc::{AllocError, Global};
 use std::test::Fail;
 
@@ -28,13 +28,14 @@ enum Row {
     FoldsAtBase,
     FoldsOfMultiples,
     FoldsToPacked,
+    FoldsOfLongTables,
     RowBefore,
     PlainSums,
     HalfTables,
 }
 
 /// Whether the row holds.
-fn holds<F: Field + Sample, EF: ExtensionField<F> + Sample>(
+fn holds<F: Field + Sample, EF: ExtensionField<F> + SelfAlgebra + Sample>(
     alloc: Global,
     row: Row,
 ) -> Result<bool, AllocError>
@@ -50,6 +51,7 @@ fn holds<F: Field + Sample, EF: ExtensionField<F> + Sample>(
         Row::FoldsAtBase => folds::at_base::<F, EF>(alloc, EF::ONE),
         Row::FoldsOfMultiples => folds::of_multiples::<F, EF>(alloc),
         Row::FoldsToPacked => folds::to_packed::<F, EF>(alloc),
+        Row::FoldsOfLongTables => sums::long_tables_agree::<EF>(alloc),
         Row::RowBefore => shifted::adds_the_row_before::<F, EF>(alloc),
         Row::PlainSums => sums::tables_agree::<F, EF>(alloc),
         Row::HalfTables => halves::tables_agree::<F, EF>(alloc),
@@ -75,7 +77,7 @@ fn words(alloc: Global, row: Row) -> Result<bool, AllocError> {
 
 /// [`holds`] over an extension of residues. The bound names its field: a call with two types as parameters
 /// is more than the prover takes.
-fn over_residues<const W: usize, EF: ExtensionField<BabyBear<W>> + Sample>(
+fn over_residues<const W: usize, EF: ExtensionField<BabyBear<W>> + SelfAlgebra + Sample>(
     alloc: Global,
     row: Row,
 ) -> Result<bool, AllocError>
@@ -136,6 +138,13 @@ fn folds_to_packed(rt: HostRuntime) -> Result<(), Fail> {
     assert!(rt; residues::<4>(rt.alloc(), Row::FoldsToPacked)?);
     assert!(rt; words(rt.alloc(), Row::FoldsToPacked)?);
     assert!(rt; quartics::<4>(rt.alloc(), Row::FoldsToPacked)?);
+    Ok(())
+}
+
+#[test]
+fn folds_of_long_tables(rt: HostRuntime) -> Result<(), Fail> {
+    assert!(rt; residues::<4>(rt.alloc(), Row::FoldsOfLongTables)?);
+    assert!(rt; quartics::<4>(rt.alloc(), Row::FoldsOfLongTables)?);
     Ok(())
 }
 

@@ -8,11 +8,12 @@ use mlu_eq::{
 };
 use mlu_ring::{
     Additive, Algebra, ExtensionField, Field, Lanewise, PackedValue, PrimeCharacteristicRing,
-    Sample,
+    Sample, SelfAlgebra,
 };
 use mlu_test_support::draws::{drawn, drawn_table};
 use mlu_test_support::lanes::lanes;
 use mlu_test_support::lists::pair;
+use mlu_test_support::numbers::element;
 use mlu_test_support::plain::{compressed_prefix, compressed_suffix, images, value};
 use rand_pcg::Pcg32;
 use std::alloc::{AllocError, Global};
@@ -95,6 +96,17 @@ fn fold_in_place_agrees<R: Additive, F: Algebra<R>>(
     let mut folded = Vec::from_slice(alloc, table)?;
     fold_in_place(&mut folded, fold, r);
     Ok(folded.starts_with(&expected))
+}
+
+/// Whether the folds in place are the plain sums of a table that is longer than what is folded at a
+/// time, and has an entry too many.
+pub fn long_tables_agree<R: SelfAlgebra>(alloc: Global) -> Result<bool, AllocError> {
+    let table: Vec<R> = (0..601).map(element).collect(alloc)?;
+    let r = element::<R>(2);
+    Ok(
+        fold_in_place_agrees(alloc, &table, Fold::Prefix, r)?
+            && fold_in_place_agrees(alloc, &table, Fold::Suffix, r)?,
+    )
 }
 
 /// Whether the folds of a table at a base element are the plain sums of its entries.

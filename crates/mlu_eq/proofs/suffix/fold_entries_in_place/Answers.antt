@@ -1,6 +1,6 @@
 use Rattle.std.proofs.Common.{◌/◌, length, refl, arith}
 use Rattle.mlu_eq.proofs.Folds.{back_written}
-use Rattle.mlu_eq.proofs.suffix.fold_suffix_in_place.Goals as goal
+use Rattle.mlu_eq.proofs.suffix.fold_entries_in_place.Goals as goal
 
 pub returns : goal.returns
 returns g c =

@@ -1,6 +1,6 @@
 use Rattle.std.proofs.Common.{◌≡◌, ℕ, ◌+◌, ◌*◌, ◌<◌, ◌≤◌, length, get_or}
 use Rattle.mlu_eq.specs.Combine.{interpolated}
-use Rattle.mlu_eq.proofs.suffix.fold_suffix_in_place.Given as goal
+use Rattle.mlu_eq.proofs.suffix.fold_entries_in_place.Given as goal
 
 abbrev pub invariant-loop-i : goal.invariant-loop-i
 invariant-loop-i g l =
