@@ -13,7 +13,6 @@ use mlu_ring::{
 use mlu_test_support::draws::{drawn, drawn_table};
 use mlu_test_support::lanes::lanes;
 use mlu_test_support::lists::pair;
-use mlu_test_support::numbers::element;
 use mlu_test_support::plain::{compressed_prefix, compressed_suffix, images, value};
 use rand_pcg::Pcg32;
 use std::alloc::{AllocError, Global};
@@ -100,9 +99,10 @@ fn fold_in_place_agrees<R: Additive, F: Algebra<R>>(
 
 /// Whether the folds in place are the plain sums of a table that is longer than what is folded at a
 /// time, and has an entry too many.
-pub fn long_tables_agree<R: SelfAlgebra>(alloc: Global) -> Result<bool, AllocError> {
-    let table: Vec<R> = (0..601).map(element).collect(alloc)?;
-    let r = element::<R>(2);
+pub fn long_tables_agree<R: SelfAlgebra + Sample>(alloc: Global) -> Result<bool, AllocError> {
+    let mut rng = Pcg32::new(2, 54);
+    let table = drawn::<R>(alloc, &mut rng, 601)?;
+    let r = R::sample(&mut rng);
     Ok(
         fold_in_place_agrees(alloc, &table, Fold::Prefix, r)?
             && fold_in_place_agrees(alloc, &table, Fold::Suffix, r)?,
