@@ -1,16 +1,18 @@
 //! Folds of the first variable, which join the two halves of a table.
 //!
 //! Where the number of entries is odd, the last one is left out.
-ghost use Rattle.std.specs.Prelude.{◌≡◌, ◌+◌, ◌<◌, ◌≤◌, ◌/◌, ◌%◌, [], ◌∷◌, IfOk, IsOk, drop, length, map, slice_index_or, take};
+ghost use Rattle.std.specs.Prelude.{◌≡◌, ◌+◌, ◌<◌, ◌≤◌, ◌/◌, ◌%◌, [], ◌∷◌, IfOk, IsOk, IsTrue, drop, length, map, slice_index_or, take};
+ghost use Rattle.std.specs.Mem.{type_size};
 ghost use Rattle.mlu_ring.specs.Lanes.{logical};
 ghost use Rattle.mlu_ring.specs.Tables.{front, line};
+ghost use Rattle.mlu_kernel.specs.declared.small.TheConstants.{SMALL_BYTES};
 ghost use Rattle.mlu_eq.specs.Combine.{interpolated};
 ghost use Rattle.std.specs.Simd.Lanes.{zip2};
 
 use crate::line::{
     add_scaled, interpolate_at_base, interpolate_base_at_fixed, interpolate_packing,
 };
-use mlu_ring::place_by_place::sub_each;
+use mlu_kernel::small::is_small;
 use mlu_ring::{
     Additive, Algebra, ExtensionField, Field, PackedFieldExtension, PackedValue,
     PrimeCharacteristicRing,
@@ -18,8 +20,8 @@ use mlu_ring::{
 use std::alloc::{AllocError, Global};
 use std::mem::{size_of, size_of_val};
 
-/// The entries of a block: both halves of one stay in the nearest cache.
-const BLOCK: usize = 128;
+/// The entries of a block, whose differences stand on the stack.
+const BLOCK: usize = 64;
 
 /// The table folded at `r`: entry `i` is `low[i] + r * (high[i] - low[i])`, where `low` and `high`
 /// are the two halves.
@@ -104,39 +106,69 @@ pub fn fold_prefix_in_place<R: Additive, F: Algebra<R>>(entries: &mut [F], r: R)
 {
     let half = entries.len() / 2;
     let (low, high) = entries.split_at_mut(half);
-    interpolate_each(low, &mut high[..half], r);
+    interpolate_each(low, &high[..half], r);
 }
 
-/// Entry `i` of `low` becomes `low[i] + r * (high[i] - low[i])`. What `high` then holds is not
-/// promised. Asks for slices of one length.
-fn interpolate_each<R: Additive, F: Algebra<R>>(low: &mut [F], high: &mut [F], r: R)
-    requires { length low.old ≡ length high.old }
-    ensures { low.new ≡ zip2 (interpolated F.ring (F.embed r)) low.old high.old }
+/// Entry `i` of `low` becomes `low[i] + r * (high[i] - low[i])`. Asks for slices of one length.
+fn interpolate_each<R: Additive, F: Algebra<R>>(low: &mut [F], high: &[F], r: R)
+    requires { length low.old ≡ length high.now }
+    ensures { low.new ≡ zip2 (interpolated F.ring (F.embed r)) low.old high.now }
 {
-    if size_of_val(&r) > size_of::<usize>() {
-        return interpolate_by_differences(low, high, r);
+    if takes_differences::<R, F>(&r) {
+        return interpolate_by_differences(low, high, r, &mut [F::ZERO; BLOCK]);
     }
     for i in 0..low.len() {
         low[i] = interpolate_at_base(low[i], high[i], r);
     }
 }
 
-/// [`interpolate_each`] at an `r` of several words. The differences of a block are made first, so
-/// that their words fill vectors.
-fn interpolate_by_differences<R: Additive, F: Algebra<R>>(low: &mut [F], high: &mut [F], r: R)
-    requires { length low.old ≡ length high.old }
-    ensures { low.new ≡ zip2 (interpolated F.ring (F.embed r)) low.old high.old }
+/// Whether the differences of a block are made first: entries have several words, and as many as
+/// `r`, so that they are not packed. A constant, once the types are known.
+#[inline]
+fn takes_differences<R: Additive, F: Algebra<R>>(r: &R) -> bool
+    ensures { IsTrue result → type_size F.row < SMALL_BYTES }
+{
+    let bytes = size_of_val(&F::ZERO);
+    bytes > size_of::<usize>() && bytes == size_of_val(r) && is_small(&F::ZERO)
+}
+
+/// [`interpolate_each`] by the differences of a block at a time, whose words fill vectors.
+///
+/// Asks for room for those of a block. What it then holds is not promised.
+fn interpolate_by_differences<R: Additive, F: Algebra<R>>(
+    low: &mut [F],
+    high: &[F],
+    r: R,
+    differences: &mut [F],
+)
+    requires length { length low.old ≡ length high.now }
+    requires room { length differences.old ≡ BLOCK }
+    ensures interpolated { low.new ≡ zip2 (interpolated F.ring (F.embed r)) low.old high.now }
+    ensures room { length differences.new ≡ BLOCK }
 {
     if low.len() > BLOCK {
         let middle = low.len() / 2;
         let (low, other_low) = low.split_at_mut(middle);
-        let (high, other_high) = high.split_at_mut(middle);
-        interpolate_by_differences(low, high, r);
-        return interpolate_by_differences(other_low, other_high, r);
+        let (high, other_high) = high.split_at(middle);
+        interpolate_by_differences(low, high, r, differences);
+        return interpolate_by_differences(other_low, other_high, r, differences);
     }
-    sub_each(high, low);
+    let differences = &mut differences[..low.len()];
+    write_differences(differences, high, low);
     for i in 0..low.len() {
-        low[i] = add_scaled(low[i], high[i], r);
+        low[i] = add_scaled(low[i], differences[i], r);
+    }
+}
+
+/// Writes `high[i] - low[i]` to each place. Asks for slices of one length.
+#[inline]
+fn write_differences<F: Additive>(out: &mut [F], high: &[F], low: &[F])
+    requires high { length out.old ≡ length high.now }
+    requires low { length out.old ≡ length low.now }
+    ensures { out.new ≡ zip2 F.ring.minus high.now low.now }
+{
+    for i in 0..out.len() {
+        out[i] = high[i] - low[i];
     }
 }
 

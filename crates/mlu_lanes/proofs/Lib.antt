@@ -6,3 +6,4 @@ pub mod Prepared
 pub mod ResidueSums
 pub mod PackedSums
 pub mod HalvedSums
+pub mod Spread

@@ -11,6 +11,18 @@ pub fn all<const W: usize>(word: u32) -> Simd<u32, W>
     Simd::splat(word)
 }
 
+/// The word in each of four lanes, at twice its bits.
+///
+/// By way of its bytes in eight lanes: products read lower halves alone, so the compiler drops the
+/// mask, and a word is spread as it is loaded.
+#[inline]
+pub fn spread(word: u32) -> Simd<u64, 4>
+    ensures { (j : ℕ) → j < 4 → slice_index result j ≡ word }
+{
+    let words: Simd<u32, 8> = Simd::splat(word);
+    lower_halves(Simd::<u64, 4>::from_le_bytes(words.to_le_bytes()))
+}
+
 /// The sums, which wrap round.
 #[inline]
 pub fn sums<const W: usize>(a: Simd<u32, W>, b: Simd<u32, W>) -> Simd<u32, W>

@@ -6,13 +6,12 @@ ghost use Rattle.mlu_ring.specs.Tables.{pair};
 ghost use Rattle.mlu_lanes.specs.BabyBear.{baby_bear_ring, canonical, reduced};
 ghost use Rattle.mlu_lanes.specs.Packed.{residue_at};
 
-use super::packed::residue_products;
 use super::reduce_each::{FOLD, reduce_each_once, reduce_each_word};
-use super::rows::{elements_of, unreduced_rows};
+use super::rows::{elements_of, row_scaled, unreduced_rows};
 use super::{BabyBear, MODULUS};
 use crate::coefficients::Coefficients;
 use crate::words::{
-    all, lower_halves, shifted_right, sums, wide_all, wide_products, wide_sums, widened,
+    lower_halves, shifted_right, sums, wide_all, wide_products, wide_sums, widened,
 };
 use std::simd::prelude::*;
 
@@ -112,7 +111,7 @@ fn column_times_few_rows<const W: usize, E: Coefficients<BabyBear<W>>>(
         highs = wide_sums(highs, shifted_right(products, 32));
     }
     for i in GROUP * groups..l.len() {
-        let products = residue_products(all(l[i].at(a).value), row(&r[i]));
+        let products = row_scaled(l[i].at(a).value, row(&r[i]));
         lows = wide_sums(lows, lower_halves(products));
         highs = wide_sums(highs, shifted_right(products, 32));
     }

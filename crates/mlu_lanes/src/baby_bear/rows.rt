@@ -8,7 +8,7 @@ use super::montgomery::reduce_prepared;
 use super::packed::residue_products;
 use super::reduce_each::{reduce_each_once, reduce_each_word};
 use super::{BabyBear, MODULUS};
-use crate::words::{all, sums, wide_sums};
+use crate::words::{all, spread, sums, wide_products, wide_sums, widened};
 use std::simd::prelude::*;
 
 /// Lane `j` is the residue of the sum of the products of `l` and lane `j` of the rows of the
@@ -62,15 +62,20 @@ pub fn unreduced_rows<const W: usize>(
         + (canonical l.now.2 * slice_index rows.now.2 j + canonical l.now.3 * slice_index rows.now.3 j) }
     ensures small { (j : ℕ) → j < 4 → slice_index result j < 4 * MODULUS * MODULUS }
 {
-    let low = wide_sums(
-        residue_products(all(l.0.value), rows.0),
-        residue_products(all(l.1.value), rows.1),
-    );
-    let high = wide_sums(
-        residue_products(all(l.2.value), rows.2),
-        residue_products(all(l.3.value), rows.3),
-    );
+    let low = wide_sums(row_scaled(l.0.value, rows.0), row_scaled(l.1.value, rows.1));
+    let high = wide_sums(row_scaled(l.2.value, rows.2), row_scaled(l.3.value, rows.3));
     wide_sums(low, high)
+}
+
+/// The products of a residue with a row of them, unreduced.
+#[inline]
+pub fn row_scaled(residue: u32, row: Simd<u32, 4>) -> Simd<u64, 4>
+    requires residue { residue < MODULUS }
+    requires row { (j : ℕ) → j < 4 → slice_index row j < MODULUS }
+    ensures value { (j : ℕ) → j < 4 → slice_index result j ≡ residue * slice_index row j }
+    ensures least { (j : ℕ) → j < 4 → slice_index result j < MODULUS * MODULUS }
+{
+    wide_products(spread(residue), widened(row))
 }
 
 /// The elements with these least residues.

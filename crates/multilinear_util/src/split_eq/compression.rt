@@ -103,9 +103,9 @@ impl<F: Field, EF: ExtensionField<F>> SplitEq<F, EF> {
         requires { length (split_entries EF.ring self.now) ≤ length (entries poly) }
         ensures { IfOk result (λ folded. folded ≡ back EF.ring (split_entries EF.ring self.now) (map EF.embed (entries poly.entry))) }
     {
-        let mut out = Poly::zero(alloc, poly.num_variables() - self.num_variables())?;
-        self.compress_suffix_into(out.as_mut_slice(), poly);
-        Ok(out)
+        let mut folded = Poly::zero(alloc, poly.num_variables() - self.num_variables())?;
+        self.compress_suffix_into(folded.as_mut_slice(), poly);
+        Ok(folded)
     }
 
     /// [`SplitEq::compress_suffix`] over an output, whose old values do not count. Asks that places

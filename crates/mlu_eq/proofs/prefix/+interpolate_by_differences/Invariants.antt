@@ -9,4 +9,4 @@ decreases-interpolate_by_differences g l = length l.low.now
 abbrev pub invariant-loop-i : goal.invariant-loop-i
 invariant-loop-i g l =
     let ring = g.F.Additive.ring in
-    l.low ≡ zip2 (combined ring ring.one (g.F.Algebra.embed l.r)) (take l.i l.initial.low) (take l.i l.high) ++ drop l.i l.initial.low
+    l.low ≡ zip2 (combined ring ring.one (g.F.Algebra.embed l.r)) (take l.i l.initial.low) (take l.i l.differences) ++ drop l.i l.initial.low

@@ -1,4 +1,4 @@
-use Rattle.std.proofs.Common.{◌/◌, ◌∙◌, length, refl, arith}
+use Rattle.std.proofs.Common.{◌∙◌, arith}
 use Rattle.mlu_ring.proofs.Folds.{back_by_index}
 use Rattle.mlu_eq.proofs.suffix.fold_pairs.Goals as goal
 

@@ -72,13 +72,13 @@ loop-i-preserved g c =
     let within : i < length left = omega (arith, long_l, c.loop-i-test.true) in
     let y = c.at-in-loop-i.result in
     let p = λ (j : ℕ). slice_index_or (list c.index-r-i-in-loop-i.result) j (reduced 0) in
-    let x = slice_index c.residue_products-products.result in
+    let x = slice_index c.row_scaled-products.result in
     more i (i + 1) c.loop-i.lows c.loop-i.highs c.wide_sums-lows-in-loop-i.result c.wide_sums-highs-in-loop-i.result x _ _ right (λ j. ring.product y (p j))
     (omega arith) c.loop-i.invariant
     (λ j b. c.wide_sums-lows-in-loop-i.ensures j b ∙ ap (λ n. slice_index c.loop-i.lows j + n) (c.lower_halves-in-loop-i.ensures j b))
     (λ j b. c.wide_sums-highs-in-loop-i.ensures j b ∙ ap (λ n. slice_index c.loop-i.highs j + n) (c.shifted_right-in-loop-i.ensures j b))
-    (λ j b. omega (arith, c.residue_products-products.ensures.small j b))
-    (λ j b. ap reduced (c.residue_products-products.ensures.value j b ∙ (λ k. c.all.ensures j b k * c.row-in-loop-i.ensures.value j b k)))
+    (λ j b. omega (arith, c.row_scaled-products.ensures.least j b))
+    (λ j b. ap reduced (c.row_scaled-products.ensures.value j b ∙ ap (λ n. canonical y * n) (c.row-in-loop-i.ensures.value j b)))
     (λ j b.
     pair-take_more ring (baby_bear_laws g.row.W) left (right j) i y (p j) within (omega (arith, within, long_l, c.requires.long, length-map c.args.r.now (λ e. slice_index_or (list e) j (reduced 0))))
     (read-column (reduced 0) list c.args.l.now i c.args.a _ y c.index-l-i-in-loop-i.is (c.at-in-loop-i.ensures (reduced 0)))

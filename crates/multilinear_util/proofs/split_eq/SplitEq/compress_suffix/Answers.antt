@@ -11,8 +11,8 @@ pub compress_suffix_into-requires : goal.compress_suffix_into-requires
 compress_suffix_into-requires g c =
     let k = c.num_variables-2.result in
     let n = c.num_variables.result in
-    let out = ap length c.as_mut_slice.ensures.value ∙ ap length c.in_ok-out.ensures ∙ length-replicate _ _ in
+    let places = ap length c.as_mut_slice.ensures.value ∙ ap length c.in_ok-folded.ensures ∙ length-replicate _ _ in
     c.num_variables.ensures.value
     ∙ quotient_of_powers n k (fewer _ _ _ _ c.num_variables-2.ensures c.num_variables.ensures.value c.requires)
-    ∙ ap (λ m. m * 2 ^ k) (sym out)
+    ∙ ap (λ m. m * 2 ^ k) (sym places)
     ∙ ap (λ m. length c.as_mut_slice.result.now * m) (sym c.num_variables-2.ensures)
