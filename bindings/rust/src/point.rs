@@ -39,7 +39,8 @@ impl Point {
     /// ```
     ///
     /// # Errors
-    /// [`Error::Length`] with 62 coordinates and more, [`Error::Residue`] and [`Error::Memory`].
+    /// [`Error::Length`] with 64 coordinates and more, [`Error::Residue`], and [`Error::Memory`], as
+    /// where the weights are more than memory can hold.
     pub fn equality_weights_msb(&self, scale: Ext) -> Result<Table<Ext>, Error> {
         let mut out = self.room()?;
         let words = out.as_flattened_mut();

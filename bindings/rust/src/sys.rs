@@ -34,7 +34,8 @@ calls! {
     fn mlu_eval_base([table, table_len], [point, point_len], => [out, out_len]);
     /// The value of a table over the extension at a point.
     fn mlu_eval_ext([table, table_len], [point, point_len], => [out, out_len]);
-    /// The sum of the values of a table over the base field, each times the weight before its own.
+    /// The sum of the weight at a point of each vertex times the value at the next one, the last being
+    /// its own next, of a table over the base field.
     fn mlu_eval_next_base([table, table_len], [point, point_len], => [out, out_len]);
     /// The weights at a point, times a scale; coordinate 0 reads the highest bit of an index.
     fn mlu_equality_weights_msb([point, point_len], [scale, scale_len], => [out, out_len]);

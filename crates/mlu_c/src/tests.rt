@@ -1,3 +1,4 @@
+//! Some exports on worked operands: their statuses, and what they write.
 use super::*;
 use std::test::Fail;
 

@@ -16,3 +16,4 @@ pub mod RowsShifted
 pub mod Runs
 pub mod Shifted
 pub mod Zipped
+pub mod FourScaled

@@ -3,6 +3,7 @@
 //! Where the number of entries is odd, the last one is left out.
 ghost use Rattle.std.specs.Prelude.{◌≡◌, ◌+◌, ◌<◌, ◌≤◌, ◌/◌, ◌%◌, [], ◌∷◌, IfOk, IsOk, IsTrue, drop, length, map, slice_index_or, take};
 ghost use Rattle.std.specs.Mem.{type_size};
+ghost use Rattle.std.specs.Vec.{vec_capacity};
 ghost use Rattle.mlu_ring.specs.Lanes.{logical};
 ghost use Rattle.mlu_ring.specs.Tables.{front, line};
 ghost use Rattle.mlu_kernel.specs.declared.small.TheConstants.{SMALL_BYTES};
@@ -34,6 +35,7 @@ pub fn fold_prefix<F: Additive, EF: Algebra<F>>(
     r: EF,
 ) -> Result<Vec<EF>, AllocError>
     ensures folded { IfOk result (λ folded. folded.items ≡ front EF.ring (line EF.ring r) (map EF.embed entries.now)) }
+    ensures exact { IfOk result (λ folded. vec_capacity folded ≡ length entries.now / 2) }
     ensures few { length entries.now < 2 → IsOk result }
 {
     let half = entries.len() / 2;
@@ -68,6 +70,7 @@ pub fn fold_prefix_to_packed<F: Field, EF: ExtensionField<F>>(
     requires { (length entries.now / 2) % F.Packing.WIDTH ≡ 0 }
     ensures folded { IfOk result (λ folded. logical EF.ExtensionPacking.ext_lanes folded.items
         ≡ front EF.ring (line EF.ring r) (map EF.embed entries.now)) }
+    ensures exact { IfOk result (λ folded. vec_capacity folded ≡ length entries.now / 2 / F.Packing.WIDTH) }
     ensures few { length entries.now < 2 → IsOk result }
 {
     let width = <F::Packing as PackedValue>::WIDTH;

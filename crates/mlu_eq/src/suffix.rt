@@ -2,6 +2,7 @@
 //!
 //! Where the number of entries is odd, the last one is left out.
 ghost use Rattle.std.specs.Prelude.{◌≡◌, ◌/◌, ◌*◌, ◌<◌, IfOk, IsOk, length, map, take};
+ghost use Rattle.std.specs.Vec.{vec_capacity};
 ghost use Rattle.mlu_ring.specs.Tables.{back, line};
 
 use crate::line::{interpolate_at_base, interpolate_base_at_fixed};
@@ -11,7 +12,8 @@ use std::alloc::{AllocError, Global};
 /// The entries that are folded one by one.
 const SINGLE_ENTRIES: usize = 16;
 
-/// The table folded at `r`: entry `i` is `e[2i] + r * (e[2i + 1] - e[2i])`.
+/// The table folded at `r`: entry `i` is `e[2i] + r * (e[2i + 1] - e[2i])`, where `e` are the
+/// entries.
 ///
 /// # Errors
 /// Where the memory for half a table is refused; never where there are fewer than two entries.
@@ -21,6 +23,7 @@ pub fn fold_suffix<F: Additive, EF: Algebra<F>>(
     r: EF,
 ) -> Result<Vec<EF>, AllocError>
     ensures folded { IfOk result (λ folded. folded.items ≡ back EF.ring (line EF.ring r) (map EF.embed entries.now)) }
+    ensures exact { IfOk result (λ folded. vec_capacity folded ≡ length entries.now / 2) }
     ensures few { length entries.now < 2 → IsOk result }
 {
     let half = entries.len() / 2;
@@ -39,6 +42,7 @@ pub fn fold_suffix_by_base<R: Additive, F: Algebra<R>>(
     r: R,
 ) -> Result<Vec<F>, AllocError>
     ensures folded { IfOk result (λ folded. folded.items ≡ back F.ring (line F.ring (F.embed r)) entries.now) }
+    ensures exact { IfOk result (λ folded. vec_capacity folded ≡ length entries.now / 2) }
     ensures few { length entries.now < 2 → IsOk result }
 {
     let half = entries.len() / 2;
@@ -50,8 +54,8 @@ pub fn fold_suffix_by_base<R: Additive, F: Algebra<R>>(
     Ok(folded)
 }
 
-/// Folds the table at `r` into its lower half: entry `i` becomes `e[2i] + r * (e[2i + 1] - e[2i])`.
-/// What the other places then hold is not promised.
+/// Folds the table at `r` into its lower half: entry `i` becomes `e[2i] + r * (e[2i + 1] - e[2i])`,
+/// where `e` are the entries. What the other places then hold is not promised.
 ///
 /// The first entries are folded first. The others are then read where nothing is written, so that
 /// many are folded at a time.

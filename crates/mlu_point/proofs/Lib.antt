@@ -24,3 +24,4 @@ pub mod PackedShares
 pub mod FilledColumns
 pub mod Chunks
 pub mod PackedChunks
+pub mod Pairs

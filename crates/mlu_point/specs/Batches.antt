@@ -1,5 +1,5 @@
 -- What a batch writes, and how it splits its scalars.
-use Rattle.std.specs.Prelude.{◌≡◌, ℕ, ◌+◌, ◌-◌, ◌*◌, ◌<◌, ◌≤◌, Bool, List, length, slice_index_or, if◌then◌else◌}
+use Rattle.std.specs.Prelude.{◌≡◌, ℕ, ◌+◌, ◌-◌, ◌*◌, ◌<◌, ◌≤◌, Bool, List, [], ◌∷◌, ◌++◌, length, slice_index_or, if◌then◌else◌}
 use Rattle.mlu_ring.specs.Ring.{Ring}
 use Rattle.mlu_ring.specs.Matrices.{batch, left_by}
 
@@ -23,6 +23,31 @@ lower_share ring image scalar c = ring.minus scalar (ring.product scalar (image 
 abbrev pub AreShares : {C R : Type 0} → (R → C → R) → List R → List R → List C → Type 0
 AreShares {C} {R} share shares scalars coordinates = (i : ℕ) (d : R) (c : C) → i < length scalars → slice_index_or shares i d ≡ share (slice_index_or scalars i d) (slice_index_or coordinates i c)
 
--- the room for packed shares where so many variables of so many points are left to them: a lane buffer, and a place for each point and each of its coordinates that is no lane's
+-- the elements two by two; of an odd number the last is left out
+abbrev pub pairs : {A : Type 0} → List A → List (A × A)
+pairs [] = []
+pairs (a ∷ []) = []
+pairs (a ∷ b ∷ xs) = (a, b) ∷ pairs xs
+
+-- pairs of elements of a ring, place by place
+abbrev pub pair_ring : {R : Type 0} → Ring R → Ring (R × R)
+pair_ring ring = record {
+  zero = (ring.zero, ring.zero);
+  one = (ring.one, ring.one);
+  sum = λ p q. (ring.sum p.0 q.0, ring.sum p.1 q.1);
+  minus = λ p q. (ring.minus p.0 q.0, ring.minus p.1 q.1);
+  negation = λ p. (ring.negation p.0, ring.negation p.1);
+  product = λ p q. (ring.product p.0 q.0, ring.product p.1 q.1);
+}
+
+-- the lanes of the first and then those of the second
+abbrev pub pair_lanes : {P V : Type 0} → (P → List V) → P × P → List V
+pair_lanes lanes p = lanes p.0 ++ lanes p.1
+
+-- the image twice
+abbrev pub pair_image : {C P : Type 0} → (C → P) → C → P × P
+pair_image image c = (image c, image c)
+
+-- the room for packed shares where so many variables of so many points are left to them: a buffer for the lanes of four, and four places for each point and each of its coordinates that is none of theirs
 abbrev pub IsRoom : ℕ → ℕ → ℕ → ℕ → ℕ → ℕ → Type 0
-IsRoom width log_width variables points lanes packed = 0 < variables → (log_width ≤ variables) × (lanes ≡ width) × (packed ≡ (variables - log_width) * points + points)
+IsRoom width log_width variables points lanes packed = 0 < variables → (log_width + 2 ≤ variables) × (lanes ≡ 4 * width) × (packed ≡ 4 * ((variables - (log_width + 2)) * points + points))

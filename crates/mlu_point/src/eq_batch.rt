@@ -2,18 +2,20 @@
 //!
 //! A batch goes down variable by variable. Each scalar is split by the coordinate of its point,
 //! one share for the lower half of the output and one for the upper half. The first variables give
-//! the chunks of the output; in a chunk of enough variables the last ones are the lanes of packed
-//! shares, and those between split these.
+//! the chunks of the output; in a chunk of enough variables the last ones are the lanes of shares of
+//! four packed values, and those between split these.
 ghost use Rattle.std.specs.Prelude.{◌≡◌, ℕ, ◌+◌, ◌-◌, ◌*◌, ◌<◌, ◌≤◌, ◌/◌, ◌^◌, ◌++◌, length, map, replicate, is_ok, IsOk, IfOk, if◌then◌else◌};
 ghost use Rattle.mlu_point.specs.Batches.{with_batch, after_batch, IsRoom};
 
 mod evaluator;
+mod fours;
 mod lanes;
 mod shares;
 
 use crate::evaluator::EmbeddedCoordinates;
 use evaluator::{ExtFieldEvaluator, PackedEvaluator};
-use lanes::add_chunk;
+use fours::FOUR;
+use lanes::{LOG_FOUR, add_chunk};
 use mlu_ring::place_by_place::clear;
 use mlu_ring::{
     Additive, ExtensionField, Field, PackedValue, PrimeCharacteristicRing, RowMajorMatrixView,
@@ -28,10 +30,10 @@ use std::alloc::{AllocError, Global};
 /// taken; it becomes zeros, or is left where `INITIALIZED`.
 ///
 /// # Errors
-/// Where the working space is refused, or its size does not fit `usize`; the output is as before
-/// then. With no points there is none. With up to `log2(W) + 1` variables it is an element for each
-/// scalar and each coordinate. With more it is a packed element for each scalar and for each
-/// coordinate but the last `log2(W)`, and an element for each scalar and each lane.
+/// Where the working space is refused, or its size does not fit `usize`; the output is then as
+/// before. For `p` points of `n` variables it is `p * (n + 1)` elements up to `log2(W) + 1`
+/// variables, else `4 * p * (n - log2(W) - 1)` packed elements and `p + 4 * W` elements. With no
+/// points no space is asked for.
 pub fn eval_eq_batch<F: Field, EF: ExtensionField<F>, const INITIALIZED: bool>(
     alloc: Global,
     evals: RowMajorMatrixView<'_, EF>,
@@ -65,7 +67,8 @@ pub fn eval_eq_base_batch<F: Field, EF: ExtensionField<F>, const INITIALIZED: bo
 /// other.
 ///
 /// Asks besides that `log_chunks` is at most the number of variables; with no points it is not
-/// read. The working space has an element more for each scalar and each variable of the chunks.
+/// read. The working space is that of the `n - log_chunks` variables of a chunk, and `p * log_chunks`
+/// elements more.
 pub fn eval_eq_batch_in_chunks<F: Field, EF: ExtensionField<F>, const INITIALIZED: bool>(
     alloc: Global,
     evals: RowMajorMatrixView<'_, EF>,
@@ -126,7 +129,7 @@ fn evaluate<
         return Ok(());
     }
     let below = variables_of_chunk::<F>(evals.height() - log_chunks);
-    let lanes = lane_places::<F>(below);
+    let lanes = lane_places::<F>(below)?;
     let mut packed = packed_space::<F, EF>(alloc, scalars.len(), below)?;
     let splits = evals.values.len() - below * scalars.len();
     let mut working = working_space(alloc, scalars, splits, lanes)?;
@@ -144,49 +147,54 @@ fn evaluate<
     Ok(())
 }
 
-/// How many of so many variables a chunk leaves to packed shares: all, or none where fewer than two
-/// would be left to split them.
+/// How many of so many variables a chunk leaves to packed shares: all, or none where these are too
+/// few for a share of four packed values.
 fn variables_of_chunk<F: Field>(variables: usize) -> usize
     ensures many { F.Packing.LOG_WIDTH + 2 ≤ variables → result ≡ variables }
     ensures few { variables < F.Packing.LOG_WIDTH + 2 → result ≡ 0 }
     ensures within { result ≤ variables }
-    ensures lanes { 0 < result → F.Packing.LOG_WIDTH ≤ result }
+    ensures lanes { 0 < result → F.Packing.LOG_WIDTH + 2 ≤ result }
 {
-    if variables.saturating_sub(<F::Packing as PackedValue>::LOG_WIDTH) < 2 {
+    if variables.saturating_sub(<F::Packing as PackedValue>::LOG_WIDTH) < LOG_FOUR {
         0
     } else {
         variables
     }
 }
 
-/// The places for the lanes of one packed share, where a chunk leaves variables to packed shares.
-fn lane_places<F: Field>(variables: usize) -> usize
-    ensures some { 0 < variables → result ≡ F.Packing.WIDTH }
-    ensures none { variables ≡ 0 → result ≡ 0 }
+/// The places for the lanes of one share, where a chunk leaves variables to packed shares.
+///
+/// # Errors
+/// Where their number does not fit `usize`.
+fn lane_places<F: Field>(variables: usize) -> Result<usize, AllocError>
+    ensures some { IfOk result (λ places. 0 < variables → places ≡ 4 * F.Packing.WIDTH) }
+    ensures none { variables ≡ 0 → IfOk result (λ places. places ≡ 0) }
 {
     if variables == 0 {
-        0
-    } else {
-        <F::Packing as PackedValue>::WIDTH
+        return Ok(0);
     }
+    FOUR.checked_mul(<F::Packing as PackedValue>::WIDTH)
+        .ok_or(AllocError)
 }
 
-/// Zeros for the packed shares of so many points, and for those of each variable that is no lane's.
+/// Zeros for the shares of so many points, and for those of each variable that these do not stand for.
 fn packed_space<F: Field, EF: ExtensionField<F>>(
     alloc: Global,
     points: usize,
     variables: usize,
 ) -> Result<Vec<EF::ExtensionPacking>, AllocError>
     requires fits { variables * points < 2 ^ 64 }
-    requires lanes { 0 < variables → F.Packing.LOG_WIDTH ≤ variables }
-    ensures some { IfOk result (λ space. 0 < variables → length space.items ≡ (variables - F.Packing.LOG_WIDTH) * points + points) }
+    requires lanes { 0 < variables → F.Packing.LOG_WIDTH + 2 ≤ variables }
+    ensures some { IfOk result (λ space. 0 < variables → length space.items
+        ≡ 4 * ((variables - (F.Packing.LOG_WIDTH + 2)) * points + points)) }
     ensures none { variables ≡ 0 → IfOk result (λ space. length space.items ≡ 0) }
 {
     if variables == 0 {
         return EF::ExtensionPacking::zero_vec(alloc, 0);
     }
-    let splits = (variables - <F::Packing as PackedValue>::LOG_WIDTH) * points;
-    let size = splits.checked_add(points).ok_or(AllocError)?;
+    let splits = (variables - (<F::Packing as PackedValue>::LOG_WIDTH + LOG_FOUR)) * points;
+    let shares = splits.checked_add(points).ok_or(AllocError)?;
+    let size = FOUR.checked_mul(shares).ok_or(AllocError)?;
     EF::ExtensionPacking::zero_vec(alloc, size)
 }
 

@@ -164,8 +164,7 @@ impl<F: PrimeCharacteristicRing> Poly<F> {
     /// values.
     ///
     /// # Errors
-    /// Where memory is refused, and never where the size is as before; the polynomial is then as
-    /// before.
+    /// Where memory is refused; the polynomial is then as before. Never where the size is as before.
     pub fn pad_zeros(&mut self, variables: usize) -> Result<(), AllocError>
         requires fits { 2 ^ variables < 2 ^ 64 }
         requires grows { length self.old ≤ 2 ^ variables }

@@ -1,5 +1,6 @@
 //! Sums of the entries of a table, each times its weight in the split table.
-ghost use Rattle.std.specs.Prelude.{◌≡◌, ◌*◌, length, map, IsTrue};
+ghost use Rattle.std.specs.Prelude.{◌≡◌, ◌*◌, ◌<◌, length, map, slice_index_or, IsTrue};
+ghost use Rattle.mlu_ring.specs.Fours.{in_order};
 ghost use Rattle.mlu_ring.specs.Lanes.{logical};
 ghost use Rattle.mlu_ring.specs.Sums.{sum_of};
 ghost use Rattle.mlu_ring.specs.Tables.{pair};
@@ -19,6 +20,9 @@ const FEW_ENTRIES: usize = 1024;
 /// The products that are summed before they are reduced.
 const GROUP: usize = 4;
 
+/// The coefficients of an extension whose sums are reduced for four base elements at once.
+const COEFFICIENTS: usize = 4;
+
 /// The sum of the base entries, each times its weight. Asks for as many entries as the split
 /// table has.
 pub fn dot_base<F: Field, EF: ExtensionField<F>>(
@@ -30,7 +34,7 @@ pub fn dot_base<F: Field, EF: ExtensionField<F>>(
     ensures { result ≡ pair EF.ring (contents EF.ring eq0.now eq1.now.weights) (map EF.embed entries.now) }
 {
     match eq1.weights() {
-        Weights::Scalar(weights) => dot_of_rows(eq0, weights, entries),
+        Weights::Scalar(weights) => dot_of_rows::<F, EF>(eq0, weights, entries),
         Weights::Packed(weights) => packed_dot(eq0, weights, entries),
     }
 }
@@ -99,13 +103,13 @@ fn packed_dot<F: Field, EF: ExtensionField<F>>(
 }
 
 /// The sum of the rows' dots with `weights`, each times its entry of `eq0`.
-fn dot_of_rows<F: Additive, EF: Algebra<F>>(eq0: &[EF], weights: &[EF], entries: &[F]) -> EF
+fn dot_of_rows<F: Field, EF: ExtensionField<F>>(eq0: &[EF], weights: &[EF], entries: &[F]) -> EF
     requires { length entries.now ≡ length eq0.now * length weights.now }
     ensures { result ≡ double_sum EF.ring eq0.now weights.now (map EF.embed entries.now) }
 {
     let mut sum = EF::ZERO;
     for j in 0..eq0.len() {
-        sum = sum + eq0[j] * base_dot(weights, row_of(entries, eq0.len(), j));
+        sum = sum + eq0[j] * base_dot::<F, EF>(weights, row_of(entries, eq0.len(), j));
     }
     sum
 }
@@ -128,17 +132,67 @@ fn dot_of_packed_rows<F: Field, EF: ExtensionField<F>>(
     sum
 }
 
-/// The sum of the products of weights and base entries.
+/// The sum of the products of weights and base entries, four at a time.
 #[inline]
-pub(super) fn base_dot<F: Additive, EF: Algebra<F>>(weights: &[EF], entries: &[F]) -> EF
+pub(super) fn base_dot<F: Field, EF: ExtensionField<F>>(weights: &[EF], entries: &[F]) -> EF
     requires { length entries.now ≡ length weights.now }
     ensures { result ≡ pair EF.ring weights.now (map EF.embed entries.now) }
 {
+    let groups = weights.len() / GROUP;
     let mut sum = EF::ZERO;
-    for i in 0..weights.len() {
+    for g in 0..groups {
+        let i = GROUP * g;
+        let left = (weights[i], weights[i + 1], weights[i + 2], weights[i + 3]);
+        let right = (entries[i], entries[i + 1], entries[i + 2], entries[i + 3]);
+        sum = sum + four_scaled::<F, EF>(&left, &right);
+    }
+    for i in GROUP * groups..weights.len() {
         sum = sum + weights[i].scale(entries[i]);
     }
     sum
+}
+
+/// The sum of four weights, each times a base element. Where weights have four coefficients the
+/// elements are a row and the weights the rows of a matrix, so that the sum is reduced once.
+#[inline]
+fn four_scaled<F: Field, EF: ExtensionField<F>>(
+    weights: &(EF, EF, EF, EF),
+    elements: &(F, F, F, F),
+) -> EF
+    ensures { result ≡ pair EF.ring (in_order weights.now) (map EF.embed (in_order elements.now)) }
+{
+    if EF::DIMENSION != COEFFICIENTS {
+        return weights.0.scale(elements.0)
+            + weights.1.scale(elements.1)
+            + (weights.2.scale(elements.2) + weights.3.scale(elements.3));
+    }
+    let (constant, linear, quadratic, cubic) = F::row_times_columns(
+        elements,
+        &column::<F, EF>(weights, 0),
+        &column::<F, EF>(weights, 1),
+        &column::<F, EF>(weights, 2),
+        &column::<F, EF>(weights, 3),
+    );
+    let mut sum = EF::ZERO;
+    sum.set_coefficient(0, constant);
+    sum.set_coefficient(1, linear);
+    sum.set_coefficient(2, quadratic);
+    sum.set_coefficient(3, cubic);
+    sum
+}
+
+/// Coefficient `k` of each of four. Asks that there is one.
+#[inline]
+fn column<F: Field, EF: ExtensionField<F>>(elements: &(EF, EF, EF, EF), k: usize) -> (F, F, F, F)
+    requires { k < EF.DIMENSION }
+    ensures { in_order result ≡ map (λ x. slice_index_or (EF.coefficients x) k F.ring.zero) (in_order elements.now) }
+{
+    (
+        elements.0.coefficient(k),
+        elements.1.coefficient(k),
+        elements.2.coefficient(k),
+        elements.3.coefficient(k),
+    )
 }
 
 /// The sum of the products of weights and entries, four at a time.

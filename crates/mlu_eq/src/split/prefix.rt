@@ -98,8 +98,8 @@ fn compress_prefix_by_rows<F: Field, EF: ExtensionField<F>>(
     }
 }
 
-/// The same with a packed output, which stands for its lanes: a row is as long as `out` has
-/// lanes.
+/// [`compress_prefix_into`] with a packed output, which stands for its lanes: a row is as long as
+/// `out` has lanes. Asks for as many rows as the split table has entries.
 pub fn compress_prefix_to_packed_into<F: Field, EF: ExtensionField<F>>(
     eq0: &[EF],
     eq1: &EqMaybePacked<F, EF>,

@@ -109,7 +109,7 @@ fn leading_dot<F: Field, EF: ExtensionField<F>>(eq1: &EqMaybePacked<F, EF>, row:
     ensures { result ≡ pair EF.ring (take (length row.now) eq1.now.weights) (map EF.embed row.now) }
 {
     match eq1.weights() {
-        Weights::Scalar(weights) => base_dot(&weights[..row.len()], row),
+        Weights::Scalar(weights) => base_dot::<F, EF>(&weights[..row.len()], row),
         Weights::Packed(weights) => leading_lanes_dot::<F, EF>(weights, row),
     }
 }

@@ -1,22 +1,26 @@
-//! Batches of a chunk, by packed shares: the last variables are their lanes.
-ghost use Rattle.std.specs.Prelude.{◌≡◌, ℕ, ◌+◌, ◌-◌, ◌*◌, ◌/◌, ◌<◌, ◌≤◌, ◌^◌, length, map, slice_index_or};
+//! Batches of a chunk, by packed shares: the last variables are their lanes, and the two before these
+//! the four values of a share.
+ghost use Rattle.std.specs.Prelude.{◌≡◌, ℕ, ◌+◌, ◌-◌, ◌*◌, ◌/◌, ◌<◌, ◌≤◌, ◌^◌, drop, length, map, slice_index_or, take};
 ghost use Rattle.mlu_ring.specs.Lanes.{logical};
-ghost use Rattle.mlu_ring.specs.Matrices.{batch, column, left_by};
+ghost use Rattle.mlu_ring.specs.Matrices.{batch, column, left_by, row_at};
 ghost use Rattle.mlu_ring.specs.Tables.{weights};
-ghost use Rattle.mlu_point.specs.Batches.{with_batch};
+ghost use Rattle.mlu_point.specs.Batches.{pair_image, pair_lanes, pair_ring, pairs, with_batch};
 
 use super::evaluator::{InLanes, PackedEvaluator};
-use super::shares::{split_shares, sum};
+use super::fours::{FOUR, split_fours, sum_of_fours};
 use crate::evaluator::EqualityEvaluator;
 use mlu_ring::{
     Additive, ExtensionField, Field, PackedFieldExtension, PackedValue, PrimeCharacteristicRing,
-    RowMajorMatrixView,
+    RowMajorMatrixView, row_of,
 };
 
-/// The batch of points with `log2(W)` variables or more. The last `log2(W)` become the lanes of a
-/// packed share for each point, and the others split these shares.
+/// The variables that the four values of a share stand for.
+pub(super) const LOG_FOUR: usize = 2;
+
+/// The batch of points with `log2(W) + 2` variables or more. Of the last `log2(W) + 2` come a share of
+/// four packed values for each point, and the others split these shares.
 ///
-/// Asks for `W` places in `lanes`, and in `packed` for one a point and one more for each of its
+/// Asks for `4 * W` places in `lanes`, and in `packed` for four a point and four more for each of its
 /// other coordinates.
 pub(super) fn add_chunk<
     F: Field,
@@ -33,39 +37,55 @@ pub(super) fn add_chunk<
 )
     requires some { 0 < length scalars.now }
     requires width { evals.width ≡ length scalars.now }
-    requires variables { F.Packing.LOG_WIDTH ≤ length evals.values.now / length scalars.now }
-    requires lanes { length lanes.old ≡ F.Packing.WIDTH }
+    requires variables { F.Packing.LOG_WIDTH + 2 ≤ length evals.values.now / length scalars.now }
+    requires lanes { length lanes.old ≡ 4 * F.Packing.WIDTH }
     requires packed { length packed.old
-        ≡ (length evals.values.now / length scalars.now - F.Packing.LOG_WIDTH) * length scalars.now + length scalars.now }
+        ≡ 4 * ((length evals.values.now / length scalars.now - (F.Packing.LOG_WIDTH + 2)) * length scalars.now + length scalars.now) }
     requires size { length out.old ≡ 2 ^ (length evals.values.now / length scalars.now) }
     ensures { out.new ≡ with_batch EF.ring INITIALIZED out.old (map E.image evals.entry.values.now) scalars.now }
 {
-    let middle = evals.height() - <F::Packing as PackedValue>::LOG_WIDTH;
-    let (middle, last) = evals.split_rows(middle);
-    let (shares, space) = packed.split_at_mut(scalars.len());
+    let left = <F::Packing as PackedValue>::LOG_WIDTH + LOG_FOUR;
+    let (middle, last) = evals.split_rows(evals.height() - left);
+    let (shares, space) = packed.split_at_mut(FOUR * scalars.len());
     pack_shares::<F, EF, C, E>(shares, lanes, last, scalars);
     add_groups::<F, EF, C, E, INITIALIZED>(middle, shares, space, out);
 }
 
-/// Writes the packed share of each point: in lane `k` its scalar times the weight of `k` at its
-/// coordinates.
+/// Writes the share of each point: in lane `k` of its values, joined in order, its scalar times the
+/// weight of `k` at its coordinates.
 fn pack_shares<F: Field, EF: ExtensionField<F>, C: Additive, E: EqualityEvaluator<C, EF>>(
     shares: &mut [EF::ExtensionPacking],
     lanes: &mut [EF],
     evals: RowMajorMatrixView<'_, C>,
     scalars: &[EF],
 )
-    requires shares { length shares.old ≡ length scalars.now }
+    requires shares { length shares.old ≡ 4 * length scalars.now }
     requires width { evals.width ≡ length scalars.now }
-    requires size { 2 ^ (length evals.values.now / length scalars.now) ≡ F.Packing.WIDTH }
-    requires lanes { length lanes.old ≡ F.Packing.WIDTH }
-    ensures { (i : ℕ) → i < length scalars.now → EF.ExtensionPacking.ext_lanes (slice_index_or shares.new i EF.ExtensionPacking.ring.zero)
+    requires size { 2 ^ (length evals.values.now / length scalars.now) ≡ 4 * F.Packing.WIDTH }
+    requires lanes { length lanes.old ≡ 4 * F.Packing.WIDTH }
+    ensures { (i : ℕ) → i < length scalars.now → logical EF.ExtensionPacking.ext_lanes (row_at 4 shares.new i)
         ≡ map (λ w. EF.ring.product (slice_index_or scalars.now i EF.ring.zero) w)
         (weights EF.ring (column EF.ring (map E.image evals.entry.values.now) (length scalars.now) i)) }
 {
-    for i in 0..shares.len() {
+    for i in 0..scalars.len() {
         fill_column::<C, EF, E>(lanes, evals, i, scalars[i]);
-        shares[i] = EF::ExtensionPacking::from_ext_slice(lanes);
+        pack_four::<F, EF>(shares, FOUR * i, lanes);
+    }
+}
+
+/// Writes the values with these lanes, joined in order, to four places from `start` on.
+fn pack_four<F: Field, EF: ExtensionField<F>>(
+    shares: &mut [EF::ExtensionPacking],
+    start: usize,
+    lanes: &[EF],
+)
+    requires shares { start + 4 ≤ length shares.old }
+    requires lanes { length lanes.now ≡ 4 * F.Packing.WIDTH }
+    ensures before { take start shares.new ≡ take start shares.old }
+    ensures packed { logical EF.ExtensionPacking.ext_lanes (take 4 (drop start shares.new)) ≡ lanes.now }
+{
+    for b in 0..FOUR {
+        shares[start + b] = EF::ExtensionPacking::from_ext_slice(row_of(lanes, FOUR, b));
     }
 }
 
@@ -93,8 +113,8 @@ fn fill_column<C: Additive, S: PrimeCharacteristicRing, E: EqualityEvaluator<C, 
     fill_column::<C, S, E>(high, others, i, share);
 }
 
-/// The recursion on the first variable, over packed shares. It uses up the shares and the working
-/// space.
+/// The recursion on the first variable, over shares of four packed values. It uses up the shares and
+/// the working space.
 fn add_groups<
     F: Field,
     EF: ExtensionField<F>,
@@ -107,28 +127,64 @@ fn add_groups<
     space: &mut [EF::ExtensionPacking],
     out: &mut [EF],
 )
-    requires some { 0 < length shares.old }
-    requires width { evals.width ≡ length shares.old }
-    requires space { length space.old ≡ length evals.values.now }
-    requires size { length out.old ≡ 2 ^ (length evals.values.now / length shares.old) * F.Packing.WIDTH }
-    ensures { out.new ≡ left_by EF.ring INITIALIZED out.old (logical EF.ExtensionPacking.ext_lanes
-        (batch EF.ExtensionPacking.ring (map E.packed_image evals.entry.values.now) shares.old
-        (2 ^ (length evals.entry.values.now / length shares.old)))) }
+    requires some { 0 < evals.width }
+    requires shares { length shares.old ≡ 4 * evals.width }
+    requires space { length space.old ≡ 4 * length evals.values.now }
+    requires size { length out.old ≡ 2 ^ (length evals.values.now / evals.width) * (4 * F.Packing.WIDTH) }
+    ensures { out.new ≡ left_by EF.ring INITIALIZED out.old (logical (pair_lanes (pair_lanes EF.ExtensionPacking.ext_lanes))
+        (batch (pair_ring (pair_ring EF.ExtensionPacking.ring)) (map (pair_image (pair_image E.packed_image)) evals.entry.values.now)
+        (pairs (pairs shares.old)) (2 ^ (length evals.entry.values.now / evals.entry.width)))) }
 {
     if evals.height() == 0 {
-        write_or_add_group::<F, EF, INITIALIZED>(out, sum(shares));
+        write_or_add_four::<F, EF, INITIALIZED>(out, &sum_of_fours(shares));
         return;
     }
     let (first, others) = evals.split_rows(1);
     let (high_shares, space) = space.split_at_mut(shares.len());
-    split_shares::<C, EF::ExtensionPacking, InLanes<F, EF, E>>(shares, high_shares, first.values);
+    split_fours::<C, EF::ExtensionPacking, InLanes<F, EF, E>>(shares, high_shares, first.values);
     let half = out.len() / 2;
     let (low, high) = out.split_at_mut(half);
     add_groups::<F, EF, C, E, INITIALIZED>(others, high_shares, space, high);
     add_groups::<F, EF, C, E, INITIALIZED>(others, shares, space, low);
 }
 
-/// Writes the lanes, or adds them where `INITIALIZED`.
+/// Writes the lanes of four values, joined in order, or adds them where `INITIALIZED`.
+fn write_or_add_four<F: Field, EF: ExtensionField<F>, const INITIALIZED: bool>(
+    out: &mut [EF],
+    values: &(
+        EF::ExtensionPacking,
+        EF::ExtensionPacking,
+        EF::ExtensionPacking,
+        EF::ExtensionPacking,
+    ),
+)
+    requires { length out.old ≡ 4 * F.Packing.WIDTH }
+    ensures { out.new ≡ left_by EF.ring INITIALIZED out.old (pair_lanes (pair_lanes EF.ExtensionPacking.ext_lanes)
+        ((values.now.0, values.now.1), (values.now.2, values.now.3))) }
+{
+    let half = out.len() / 2;
+    let (low, high) = out.split_at_mut(half);
+    write_or_add_two::<F, EF, INITIALIZED>(low, values.0, values.1);
+    write_or_add_two::<F, EF, INITIALIZED>(high, values.2, values.3);
+}
+
+/// The same of two values.
+#[inline]
+fn write_or_add_two<F: Field, EF: ExtensionField<F>, const INITIALIZED: bool>(
+    out: &mut [EF],
+    first: EF::ExtensionPacking,
+    second: EF::ExtensionPacking,
+)
+    requires { length out.old ≡ 2 * F.Packing.WIDTH }
+    ensures { out.new ≡ left_by EF.ring INITIALIZED out.old (pair_lanes EF.ExtensionPacking.ext_lanes (first, second)) }
+{
+    let half = out.len() / 2;
+    let (low, high) = out.split_at_mut(half);
+    write_or_add_group::<F, EF, INITIALIZED>(low, first);
+    write_or_add_group::<F, EF, INITIALIZED>(high, second);
+}
+
+/// The same of one value.
 #[inline]
 fn write_or_add_group<F: Field, EF: ExtensionField<F>, const INITIALIZED: bool>(
     out: &mut [EF],

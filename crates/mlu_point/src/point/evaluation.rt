@@ -47,7 +47,8 @@ impl<F: Field> Point<F> {
         Ok(Point::new(coords))
     }
 
-    /// The value at `q` of the images of the weights of `p`. Asks for equal lengths.
+    /// `eq(p, q)`: the value at `q` of the table of the weights of `p`, as images in `EF`. Asks for
+    /// equal lengths.
     pub fn eval_eq<EF: ExtensionField<F>>(p: &[F], q: &[EF]) -> EF
         requires { length p.now ≡ length q.now }
         ensures { result ≡ value EF.ring (map EF.embed (weights F.ring p.now)) q.now }

@@ -15,8 +15,8 @@ use std::alloc::{AllocError, Global};
 
 impl<F: Field> PolyView<'_, F> {
     /// The polynomial with its first variables at the point, times `scale`: value `z` is `scale`
-    /// times the sum over `y` of the weight of `y` times `e[y * s + z]`, where `s` is the number of
-    /// values that are left. So its value at any `rest` of the variables is `scale` times that of this
+    /// times the sum over `y` of the weight of `y` times `e[y * s + z]`, where `e` are the values and
+    /// `s` is the number of those that are left. So its value at any `rest` of the variables is `scale` times that of this
     /// polynomial at the point and then `rest`.
     ///
     /// Asks that `n >= k`, where this has `n` variables and the point `k` coordinates.
@@ -59,8 +59,8 @@ impl<F: Field> PolyView<'_, F> {
     }
 
     /// The polynomial with its last variables at the point, times `scale`: value `y` is `scale`
-    /// times the sum over `z` of the weight of `z` times `e[y * t + z]`, where the point has `t`
-    /// weights. So its value at any `first` of the variables is `scale` times that of this polynomial
+    /// times the sum over `z` of the weight of `z` times `e[y * t + z]`, where `e` are the values and
+    /// the point has `t` weights. So its value at any `first` of the variables is `scale` times that of this polynomial
     /// at `first` and then the point.
     ///
     /// Asks that `n >= k`, where this has `n` variables and the point `k` coordinates.

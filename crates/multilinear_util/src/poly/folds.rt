@@ -40,8 +40,8 @@ impl<F: Additive> PolyView<'_, F> {
         fold_prefix_at(self.as_slice(), r, index)
     }
 
-    /// The polynomial with its last variable at `r`: value `i` is `e[2i] + r * (e[2i + 1] - e[2i])`.
-    /// Asks for at least one variable.
+    /// The polynomial with its last variable at `r`: value `i` is `e[2i] + r * (e[2i + 1] - e[2i])`,
+    /// where `e` are the values. Asks for at least one variable.
     ///
     /// # Errors
     /// Where the memory for half the values is refused.

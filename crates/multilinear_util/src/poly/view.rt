@@ -50,7 +50,8 @@ impl<'a, F: Copy> PolyView<'a, F> {
         self.as_slice().len()
     }
 
-    /// The number of variables: `n`, where there are `2^n` values. It is below 64.
+    /// The number of variables: `n`, where there are `2^n` values. It is below 64. A packed table
+    /// counts its elements: the variables of the lanes are not among them.
     #[inline]
     pub fn num_variables(&self) -> usize
         ensures value { length (entries self.now) ≡ 2 ^ result }

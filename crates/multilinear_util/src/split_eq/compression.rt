@@ -16,8 +16,8 @@ impl<F: Field, EF: ExtensionField<F>> SplitEq<F, EF> {
     ghost use Rattle.multilinear_util.specs.Split.{split_entries};
 
     /// The polynomial compressed at its first variables: value `z` is the sum over `y` of entry `y`
-    /// times `e[y * s + z]`, where `s` is the number of values that are left. Asks that `n >= k`,
-    /// where the polynomial has `n` variables and the table `k`.
+    /// times `e[y * s + z]`, where `e` are the polynomial's values and `s` is the number of those that
+    /// are left. Asks that `n >= k`, where the polynomial has `n` variables and the table `k`.
     ///
     /// # Errors
     /// Where the memory for the values that are left is refused.
@@ -90,8 +90,8 @@ impl<F: Field, EF: ExtensionField<F>> SplitEq<F, EF> {
     }
 
     /// The polynomial compressed at its last variables: value `y` is the sum over `z` of entry `z`
-    /// times `e[y * t + z]`, where the table has `t` entries. Asks that `n >= k`, where the
-    /// polynomial has `n` variables and the table `k`.
+    /// times `e[y * t + z]`, where `e` are the polynomial's values and the table has `t` entries. Asks
+    /// that `n >= k`, where the polynomial has `n` variables and the table `k`.
     ///
     /// # Errors
     /// Where the memory for the values that are left is refused.

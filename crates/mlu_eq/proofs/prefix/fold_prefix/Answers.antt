@@ -31,5 +31,6 @@ returns g c =
     let all : c.loop-i.i ≡ length folded = omega (arith, long) in
     record {
       folded = c.loop-i.invariant.items ∙ ap (λ n. take n folded) all ∙ take-length folded;
+      exact = c.loop-i.invariant.capacity;
       few = λ h. refl;
     }

@@ -36,5 +36,6 @@ returns g c =
     let long : length folded ≡ half = length-front ring (line ring c.args.r) entries half (ap (λ n. n / 2) (length-map c.args.entries.now g.EF.Algebra.embed)) in
     record {
       folded = c.loop-i.invariant.lanes ∙ ap (λ n. take (n * width) folded) (groups ∙ same) ∙ ap (λ n. take n folded) (sym (long ∙ whole)) ∙ take-length folded;
+      exact = c.loop-i.invariant.capacity ∙ same;
       few = λ h. refl;
     }

@@ -13,5 +13,6 @@ returns g c =
     record {
       folded = back_of_image ring g.met.EF.Additive.laws g.EF.Algebra.embed (ring.minus ring.one c.args.r) c.args.r c.args.entries.now folded (length c.args.entries.now / 2) zero refl long
           (λ k d h. get_or_default folded k d ring.zero (omega (arith, long)) ∙ c.loop-i.invariant.done k (omega (arith, end)));
+      exact = c.loop-i.invariant.capacity;
       few = λ h. refl;
     }

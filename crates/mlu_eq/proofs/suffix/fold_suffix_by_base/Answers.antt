@@ -19,5 +19,6 @@ returns g c =
           ∙ c.loop-i.invariant.done k (omega (arith, end))
           ∙ ap (λ a. interpolated ring r a (get_or entries (2 * k + 1) ring.zero)) (get_or_default entries (2 * k) ring.zero d (omega arith))
           ∙ ap (interpolated ring r (get_or entries (2 * k) d)) (get_or_default entries (2 * k + 1) ring.zero d (omega arith)));
+      exact = c.loop-i.invariant.capacity;
       few = λ h. refl;
     }

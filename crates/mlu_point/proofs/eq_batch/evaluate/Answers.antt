@@ -22,8 +22,8 @@ add_tables-requires-clause-room g c =
     let below = c.variables_of_chunk-below.result in
     let front : length c.split_at_mut-shares.result.0.now ≡ points = omega (arith, c.split_at_mut-shares.ensures.front_len) in
     let whole = ap length c.as_mut_slice.ensures.value ∙ ap length c.in_ok-working.ensures ∙ length-append c.args.scalars.now _ ∙ ap (λ n. points + n) (length-replicate _ g.EF.Additive.ring.zero) in
-    let width = c.lane_places-lanes.ensures.some positive in (
+    let width = c.in_ok-lanes.ensures.some positive in (
       c.variables_of_chunk-below.ensures.lanes positive,
       omega (arith, whole, c.split_at_mut-shares.ensures.back_len, c.split_at_mut-space.ensures.back_len, width),
-      ap length c.as_mut_slice-2.ensures.value ∙ c.in_ok-packed.ensures.some positive ∙ ap (λ n. (below - g.F.Packing.PackedValue.LOG_WIDTH) * n + n) (sym front),
+      ap length c.as_mut_slice-2.ensures.value ∙ c.in_ok-packed.ensures.some positive ∙ ap (λ n. 4 * ((below - (g.F.Packing.PackedValue.LOG_WIDTH + 2)) * n + n)) (sym front),
     )
