@@ -4,6 +4,7 @@ use Rattle.std.specs.Int.{IsPowerOfTwo}
 use Rattle.std.specs.Option.{ok_or}
 use Rattle.std.specs.Result.{IsErrAnd}
 use Rattle.std.proofs.lemmas.Nat.{pow_pos}
+use Rattle.mlu_ring.proofs.PowersOfTwo.{power_injective}
 use Rattle.mlu.specs.declared.fault.Fault.{Fault}
 use Rattle.mlu.specs.declared.fault.Fault.TheVariants.{Length, Memory}
 use Rattle.mlu.specs.Elements.{Element}
@@ -25,12 +26,6 @@ outcome-length Reads IsSized Fits G (Err f) fault h is x reads wrong = subst (λ
 pub outcome-memory : {X Y : Type 0} (Reads IsSized Fits : X → Type 0) (G : X → Y → Type 0) (result : Result Y Fault) → IsErrAnd result (λ fault. fault ≡ Memory) → (x : X) → Reads x → IsSized x → Fits x → IsOutcome Reads IsSized Fits G result
 outcome-memory Reads IsSized Fits G (Ok y) h x reads sized fits = absurd h
 outcome-memory Reads IsSized Fits G (Err fault) h x reads sized fits = subst (λ f. IsOutcome Reads IsSized Fits G (Err f)) (sym h) (x, reads, sized, fits)
-
-power_injective : (j k : ℕ) → 2 ^ j ≡ 2 ^ k → j ≡ k
-power_injective zero zero e = refl
-power_injective zero (suc k) e = absurd (omega arith)
-power_injective (suc j) zero e = absurd (omega arith)
-power_injective (suc j) (suc k) e = ap suc (power_injective j k (omega arith))
 
 -- a table of so many entries, and whatever stands beside it
 module _ {X : Type 0} (table : List ℕ) (entries : ℕ) (e : IsTextOf entries table) (x : X) where

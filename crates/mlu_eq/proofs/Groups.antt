@@ -1,8 +1,6 @@
 -- The lanes of packed values: interpolated lane by lane, and joined in order.
 use Rattle.std.proofs.Common.{◌≡◌, ℕ, zero, suc, ◌+◌, ◌*◌, ◌/◌, ◌<◌, List, [], ◌∷◌, ◌++◌, length, get_or, take, drop, map, flat_map, replicate, refl, sym, ap, ◌∙◌, arith}
-use Rattle.std.proofs.Math.Seq.{take-add}
-use Rattle.std.proofs.lemmas.Grind.{flat_map-append}
-use Rattle.std.proofs.lemmas.List.{append-nil, drop-drop, length-drop, take-append-drop, take-map, drop-map}
+use Rattle.std.proofs.lemmas.List.{drop-drop, length-drop, take-append-drop, take-map, drop-map}
 use Rattle.std.specs.Simd.Lanes.{zip2}
 use Rattle.mlu_ring.specs.Ring.{Ring}
 use Rattle.mlu_ring.specs.Lanes.{IsLaneByLane}
@@ -32,18 +30,6 @@ module _ {P V : Type 0} (width : ℕ) (lanes : P → List V) where
   pub lanes-interpolated : (packed : Ring P) (ring : Ring V) (each : IsLaneByLane width lanes packed ring) (r : P) (x : V) (p q : P) → length (lanes p) ≡ width → length (lanes q) ≡ width → lanes r ≡ replicate width x → lanes (interpolated packed r p q) ≡ zip2 (interpolated ring x) (lanes p) (lanes q)
   lanes-interpolated packed ring each r x p q h k same =
       simp (each.sum, each.product, each.minus, each.one, same) (zip_lines ring x width (lanes p) (lanes q) h k)
-
-  -- the lanes of one packed value more are the next run of a list
-  pub lanes_more : (ps : List P) (p : P) (es : List V) (i : ℕ) → flat_map lanes ps ≡ take (i * width) es → lanes p ≡ take width (drop (i * width) es)
-      → flat_map lanes (ps ++ p ∷ []) ≡ take ((i + 1) * width) es
-  lanes_more ps p es i done next =
-      let more : i * width + width ≡ (i + 1) * width = omega arith in
-      flat_map-append lanes ps (p ∷ [])
-      ∙ ap (λ t. flat_map lanes ps ++ t) (append-nil (lanes p))
-      ∙ ap (λ t. t ++ lanes p) done
-      ∙ ap (λ t. take (i * width) es ++ t) next
-      ∙ sym (take-add (i * width) width es)
-      ∙ ap (λ n. take n es) more
 
   -- packed values whose lanes are the runs of a list have that list as their lanes, joined in order
   pub flat_map-runs : (ps : List P) (es : List V) → length es ≡ length ps * width → ((k : ℕ) (d : P) → k < length ps → lanes (get_or ps k d) ≡ take width (drop (k * width) es)) → flat_map lanes ps ≡ es

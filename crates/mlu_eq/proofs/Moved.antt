@@ -7,7 +7,7 @@ use Rattle.mlu_ring.specs.Ring.{Ring, RingLaws}
 use Rattle.mlu_ring.specs.Lanes.{logical}
 use Rattle.mlu_ring.specs.Successor.{moved_up}
 use Rattle.mlu_ring.proofs.Logical.{length-logical}
-use Rattle.mlu_eq.proofs.Zipped.{zip2-append}
+use Rattle.mlu_ring.proofs.Zips.{zip2-append}
 
 module _ {P V : Type 0} (lanes : P → List V) (n : ℕ) (long : (p : P) → length (lanes p) ≡ n) where
   -- the lanes of q values, and the first k of the next one

@@ -20,7 +20,7 @@ use Rattle.mlu_kernel.proofs.PlusRows.{plus_rows-append, length-plus_rows, get_o
 use Rattle.mlu_eq.specs.Split.{contents, row_weight, run_of}
 use Rattle.mlu_eq.proofs.Contents.{contents-rows, length-contents, get_or-contents_row}
 use Rattle.mlu_eq.proofs.Shifted.{plus_rows-take, plus_rows-zero, plus_rows-shifted}
-use Rattle.mlu_eq.proofs.Zipped.{zip2-append}
+use Rattle.mlu_ring.proofs.Zips.{zip2-append}
 
 -- values that are their own only lanes
 pub logical-itself : {R : Type 0} (xs : List R) → logical (λ x. x ∷ []) xs ≡ xs

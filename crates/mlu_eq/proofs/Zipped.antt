@@ -1,9 +1,10 @@
 -- What a loop leaves that writes a function of two lists over the first, block by block.
-use Rattle.std.proofs.Common.{◌≡◌, ℕ, zero, suc, ◌+◌, ◌-◌, ◌*◌, ◌<◌, ◌≤◌, List, [], ◌∷◌, ◌++◌, map, length, take, drop, replicate, ap, ◌∙◌, arith, zero-add, suc-add, refl, sym}
+use Rattle.std.proofs.Common.{◌≡◌, ℕ, zero, suc, ◌+◌, ◌-◌, ◌*◌, ◌<◌, ◌≤◌, List, [], ◌∷◌, ◌++◌, map, length, take, drop, replicate, ap, ◌∙◌, arith, refl, sym}
 use Rattle.std.specs.Simd.Lanes.{zip2}
 use Rattle.std.proofs.lemmas.List.{drop-drop, length-map, length-take, take-append-drop}
 use Rattle.mlu_ring.specs.Ring.{Ring, RingLaws}
 use Rattle.mlu_ring.proofs.Rings.{map-one, line_by_step}
+use Rattle.mlu_ring.proofs.Zips.{zip2-append, zip_more}
 use Rattle.mlu_eq.specs.Combine.{combined, interpolated}
 use Rattle.mlu_eq.proofs.Products.{row_end}
 
@@ -12,15 +13,7 @@ module _ {V W : Type 0} (f : V → W → V) where
   pub zip_block : (xs : List V) (ys : List W) (out : List V) (m n : ℕ) → m + n ≤ length xs → length xs ≡ length ys → out ≡ zip2 f (take m xs) (take m ys) ++ drop m xs
       → take m out ++ (zip2 f (take n (drop m out)) (take n (drop m ys)) ++ drop (m + n) out) ≡ zip2 f (take (m + n) xs) (take (m + n) ys) ++ drop (m + n) xs
   zip_block xs ys out m n h e is =
-      ap (λ vs. take m vs ++ (zip2 f (take n (drop m vs)) (take n (drop m ys)) ++ drop (m + n) vs)) is ∙ blocks xs ys m n h e
-    where
-      blocks : (xs : List V) (ys : List W) (m n : ℕ) → m + n ≤ length xs → length xs ≡ length ys
-          → take m (zip2 f (take m xs) (take m ys) ++ drop m xs) ++ (zip2 f (take n (drop m (zip2 f (take m xs) (take m ys) ++ drop m xs))) (take n (drop m ys)) ++ drop (m + n) (zip2 f (take m xs) (take m ys) ++ drop m xs))
-          ≡ zip2 f (take (m + n) xs) (take (m + n) ys) ++ drop (m + n) xs
-      blocks xs ys zero n h e = rw zero-add refl
-      blocks [] ys (suc m) n h e = absurd (omega arith)
-      blocks (x ∷ xs) [] (suc m) n h e = absurd (omega arith)
-      blocks (x ∷ xs) (y ∷ ys) (suc m) n h e = rw suc-add (ap (λ vs. f x y ∷ vs) (blocks xs ys m n (omega arith) (omega arith)))
+      ap (λ vs. take m vs ++ (zip2 f (take n (drop m vs)) (take n (drop m ys)) ++ drop (m + n) vs)) is ∙ zip_more f xs ys m n h e
 
   -- block i of n places, written over what a loop left: the loop counts its places as v
   pub zip_block_step : (xs : List V) (ys : List W) (out written : List V) (i m v n : ℕ) → i < m → length xs ≡ m * n → length xs ≡ length ys → v ≡ n
@@ -38,13 +31,6 @@ module _ {V W : Type 0} (f : V → W → V) where
       ∙ zip_block xs ys out (i * n) n room e is
       ∙ ap (λ k. zip2 f (take k xs) (take k ys) ++ drop k xs) next
 
-  -- two lists in two parts
-  pub zip2-append : (us vs : List V) (xs ys : List W) → length us ≡ length xs → zip2 f (us ++ vs) (xs ++ ys) ≡ zip2 f us xs ++ zip2 f vs ys
-  zip2-append [] vs [] ys h = refl
-  zip2-append [] vs (x ∷ xs) ys h = absurd (omega arith)
-  zip2-append (u ∷ us) vs [] ys h = absurd (omega arith)
-  zip2-append (u ∷ us) vs (x ∷ xs) ys h = ap (λ zs. f u x ∷ zs) (zip2-append us vs xs ys (omega arith))
-
   -- two lists in two parts at the same place
   pub zip_halves : (xs : List V) (ys : List W) (m : ℕ) (us vs out other : List V) (ws zs : List W) → length xs ≡ length ys
       → us ≡ take m xs → vs ≡ drop m xs → ws ≡ take m ys → zs ≡ drop m ys → out ≡ zip2 f us ws → other ≡ zip2 f vs zs → out ++ other ≡ zip2 f xs ys
@@ -52,7 +38,7 @@ module _ {V W : Type 0} (f : V → W → V) where
       let long : length us ≡ length ws = rw (first_x, first_y) (simp length-take (rw h refl)) in
       ap (λ l. l ++ other) is
       ∙ ap (λ l. zip2 f us ws ++ l) is_other
-      ∙ sym (zip2-append us vs ws zs long)
+      ∙ sym (zip2-append f us vs ws zs long)
       ∙ ap (λ l. zip2 f (l ++ vs) (ws ++ zs)) first_x
       ∙ ap (λ l. zip2 f (take m xs ++ l) (ws ++ zs)) last_x
       ∙ ap (λ l. zip2 f (take m xs ++ drop m xs) (l ++ zs)) first_y

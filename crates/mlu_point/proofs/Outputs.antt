@@ -1,19 +1,19 @@
 -- What a table leaves in an output.
-use Rattle.std.proofs.Common.{not, nat_eq, ◌≡◌, ℕ, zero, suc, ◌≤◌, Bool, true, false, List, [], ◌∷◌, ◌++◌, length, get_or, take, drop, set, refl, ap, ◌∙◌, arith}
+use Rattle.std.proofs.Common.{not, nat_eq, ◌≡◌, ℕ, zero, suc, ◌≤◌, Bool, true, false, List, [], ◌∷◌, ◌++◌, length, get_or, take, drop, set, refl, sym, ap, ◌∙◌, arith}
 use Rattle.std.specs.Prelude.{if◌then◌else◌}
 use Rattle.std.proofs.Math.Seq.{take-append_seam}
 use Rattle.std.specs.Simd.Lanes.{zip2}
 use Rattle.std.proofs.lemmas.Bool.{ne_eqb}
+use Rattle.std.proofs.lemmas.List.{length-take, take-append-drop}
 use Rattle.mlu_ring.specs.Ring.{Ring}
 use Rattle.mlu_ring.specs.Matrices.{left_by}
+use Rattle.mlu_ring.proofs.Zips.{zip2-append}
 
 -- what is written in two halves
 pub zip-append : {A B : Type 0} (f : A → B → A) (m : ℕ) (old : List A) (a b : List B) → length a ≡ m → m ≤ length old → zip2 f (take m old) a ++ zip2 f (drop m old) b ≡ zip2 f old (a ++ b)
-zip-append f zero old [] b h k = refl
-zip-append f zero old (y ∷ a) b h k = absurd (omega arith)
-zip-append f (suc m) [] a b h k = absurd (omega arith)
-zip-append f (suc m) (x ∷ old) [] b h k = absurd (omega arith)
-zip-append f (suc m) (x ∷ old) (y ∷ a) b h k = ap (λ l. f x y ∷ l) (zip-append f m old a b (omega arith) (omega arith))
+zip-append f m old a b h k =
+    let same : length (take m old) ≡ length a = simp length-take (omega (arith, h)) in
+    sym (zip2-append f (take m old) (drop m old) a b same) ∙ ap (λ l. zip2 f l (a ++ b)) (take-append-drop m old)
 
 module _ {R : Type 0} (ring : Ring R) where
   pub left-append : (adds : Bool) (m : ℕ) (old a b : List R) → length a ≡ m → m ≤ length old → left_by ring adds (take m old) a ++ left_by ring adds (drop m old) b ≡ left_by ring adds old (a ++ b)

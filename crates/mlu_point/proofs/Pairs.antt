@@ -1,14 +1,12 @@
 -- Elements two by two: their ring, and their lanes.
 use Rattle.std.proofs.Common.{◌≡◌, ℕ, zero, suc, ◌+◌, ◌*◌, ◌/◌, ◌<◌, ◌≤◌, List, [], ◌∷◌, ◌++◌, length, get_or, take, drop, Bool, replicate, refl, sym, ap, ◌∙◌, arith, length-append, append_assoc}
-use Rattle.std.specs.Simd.Lanes.{zip2}
-use Rattle.std.proofs.lemmas.Grind.{flat_map-append}
-use Rattle.std.proofs.Math.Seq.{take-add}
 use Rattle.std.proofs.lemmas.List.{map-append, append-nil, replicate-append-replicate, drop_more, drop_all, drop-take, take-take}
 use Rattle.mlu_ring.specs.Ring.{Ring, RingLaws}
 use Rattle.mlu_ring.specs.Lanes.{IsLaneByLane, logical}
 use Rattle.mlu_ring.specs.Sums.{sum_of}
 use Rattle.mlu_ring.specs.Matrices.{left_by, row_at}
 use Rattle.mlu_ring.proofs.Rings.{sum_zero}
+use Rattle.mlu_ring.proofs.Zips.{zip2-append}
 use Rattle.mlu_point.proofs.Outputs.{left-append}
 use Rattle.mlu_point.specs.Batches.{pairs, pair_ring, pair_lanes, AreShares}
 
@@ -28,12 +26,6 @@ pair_laws ring laws = record {
   product_sum = λ a b c. both (laws.product_sum a.0 b.0 c.0) (laws.product_sum a.1 b.1 c.1);
 }
 
-zip-append : {V : Type 0} (f : V → V → V) (us vs xs ys : List V) → length us ≡ length xs → zip2 f (us ++ vs) (xs ++ ys) ≡ zip2 f us xs ++ zip2 f vs ys
-zip-append f [] vs [] ys h = refl
-zip-append f [] vs (x ∷ xs) ys h = absurd (omega arith)
-zip-append f (u ∷ us) vs [] ys h = absurd (omega arith)
-zip-append f (u ∷ us) vs (x ∷ xs) ys h = ap (λ zs. f u x ∷ zs) (zip-append f us vs xs ys (omega arith))
-
 module _ {P V : Type 0} (width : ℕ) (lanes : P → List V) (packed : Ring P) (ring : Ring V) (long : (p : P) → length (lanes p) ≡ width) where
   pub pair_long : (p : P × P) → length (pair_lanes lanes p) ≡ 2 * width
   pair_long p = length-append (lanes p.0) (lanes p.1) ∙ omega (arith, long p.0, long p.1)
@@ -45,10 +37,10 @@ module _ {P V : Type 0} (width : ℕ) (lanes : P → List V) (packed : Ring P) (
   pair_lane_by_lane each = record {
     zero = lanes-twice ring.zero packed.zero each.zero;
     one = lanes-twice ring.one packed.one each.one;
-    sum = λ p q. (λ i. each.sum p.0 q.0 i ++ each.sum p.1 q.1 i) ∙ sym (zip-append ring.sum (lanes p.0) (lanes p.1) (lanes q.0) (lanes q.1) (long p.0 ∙ sym (long q.0)));
-    minus = λ p q. (λ i. each.minus p.0 q.0 i ++ each.minus p.1 q.1 i) ∙ sym (zip-append ring.minus (lanes p.0) (lanes p.1) (lanes q.0) (lanes q.1) (long p.0 ∙ sym (long q.0)));
+    sum = λ p q. (λ i. each.sum p.0 q.0 i ++ each.sum p.1 q.1 i) ∙ sym (zip2-append ring.sum (lanes p.0) (lanes p.1) (lanes q.0) (lanes q.1) (long p.0 ∙ sym (long q.0)));
+    minus = λ p q. (λ i. each.minus p.0 q.0 i ++ each.minus p.1 q.1 i) ∙ sym (zip2-append ring.minus (lanes p.0) (lanes p.1) (lanes q.0) (lanes q.1) (long p.0 ∙ sym (long q.0)));
     negation = λ p. (λ i. each.negation p.0 i ++ each.negation p.1 i) ∙ sym (map-append ring.negation (lanes p.0) (lanes p.1));
-    product = λ p q. (λ i. each.product p.0 q.0 i ++ each.product p.1 q.1 i) ∙ sym (zip-append ring.product (lanes p.0) (lanes p.1) (lanes q.0) (lanes q.1) (long p.0 ∙ sym (long q.0)));
+    product = λ p q. (λ i. each.product p.0 q.0 i ++ each.product p.1 q.1 i) ∙ sym (zip2-append ring.product (lanes p.0) (lanes p.1) (lanes q.0) (lanes q.1) (long p.0 ∙ sym (long q.0)));
   }
 
 module _ {A : Type 0} where
@@ -145,17 +137,6 @@ row-before xs ys s k same within =
     ∙ drop-take (k * 4) 4 ys
 
 module _ {P V : Type 0} (lanes : P → List V) where
-  -- the lanes of one value more are the next run of a list
-  pub lanes_more : (width : ℕ) (ps : List P) (p : P) (es : List V) (i : ℕ) → logical lanes ps ≡ take (i * width) es → lanes p ≡ take width (drop (i * width) es)
-      → logical lanes (ps ++ p ∷ []) ≡ take ((i + 1) * width) es
-  lanes_more width ps p es i done next =
-      let more : i * width + width ≡ (i + 1) * width = omega arith in
-      flat_map-append lanes ps (p ∷ [])
-      ∙ ap (λ t. logical lanes ps ++ t) (append-nil (lanes p))
-      ∙ (λ j. done j ++ next j)
-      ∙ sym (take-add (i * width) width es)
-      ∙ ap (λ k. take k es) more
-
   -- the lanes of a share are those of its row
   pub lanes-four : (xs : List P) (n i : ℕ) (d : (P × P) × (P × P)) → length xs ≡ 4 * n → i < n → pair_lanes (pair_lanes lanes) (get_or (pairs (pairs xs)) i d) ≡ logical lanes (row_at 4 xs i)
   lanes-four [] n i d h q = absurd (omega arith)

@@ -1,20 +1,12 @@
 -- The lanes of packed values, joined in order: blocks as long as the width.
-use Rattle.std.proofs.Common.{◌≡◌, ℕ, zero, suc, ◌+◌, ◌*◌, ◌<◌, ◌≤◌, List, [], ◌∷◌, ◌++◌, length, take, drop, set, get_or, replicate, refl, sym, ap, ◌∙◌, arith, length-append, append_assoc, zero-add, suc-add}
+use Rattle.std.proofs.Common.{◌≡◌, ℕ, zero, suc, ◌+◌, ◌*◌, ◌<◌, ◌≤◌, List, [], ◌∷◌, ◌++◌, length, take, drop, set, get_or, replicate, refl, sym, ap, ◌∙◌, arith, length-append, append_assoc}
 use Rattle.std.specs.Simd.Lanes.{zip2}
 use Rattle.std.proofs.Math.Nat.{mul-le-mul_right, add_comm, zero-mul, suc-mul}
-use Rattle.std.proofs.Math.Seq.{take-append-add, take-append_seam, drop-append-add, drop-append_seam, take-nil, drop-nil}
+use Rattle.std.proofs.Math.Seq.{take-add, take-append-add, take-append_seam, drop-append-add, drop-append_seam, take-nil, drop-nil}
 use Rattle.std.proofs.lemmas.Grind.{flat_map-append}
 use Rattle.std.proofs.lemmas.List.{get_or_append_left, get_or-append-add, take_more, append-nil, replicate-append-replicate}
 use Rattle.mlu_ring.specs.Lanes.{logical}
-
--- n more places of two lists, zipped over the first
-zip_more : {V W : Type 0} (f : V → W → V) (xs : List V) (ys : List W) (m n : ℕ) → m + n ≤ length xs → length xs ≡ length ys
-    → take m (zip2 f (take m xs) (take m ys) ++ drop m xs) ++ (zip2 f (take n (drop m (zip2 f (take m xs) (take m ys) ++ drop m xs))) (take n (drop m ys)) ++ drop (m + n) (zip2 f (take m xs) (take m ys) ++ drop m xs))
-    ≡ zip2 f (take (m + n) xs) (take (m + n) ys) ++ drop (m + n) xs
-zip_more f xs ys zero n h e = rw zero-add refl
-zip_more f [] ys (suc m) n h e = absurd (omega arith)
-zip_more f (x ∷ xs) [] (suc m) n h e = absurd (omega arith)
-zip_more f (x ∷ xs) (y ∷ ys) (suc m) n h e = rw suc-add (ap (λ vs. f x y ∷ vs) (zip_more f xs ys m n (omega arith) (omega arith)))
+use Rattle.mlu_ring.proofs.Zips.{zip_more}
 
 module _ {P V : Type 0} (lanes : P → List V) (n : ℕ) (long : (p : P) → length (lanes p) ≡ n) where
   pub length-logical : (ps : List P) → length (logical lanes ps) ≡ length ps * n
@@ -102,3 +94,13 @@ module _ {P V : Type 0} (lanes : P → List V) (n : ℕ) where
       ∙ ap (λ vs. replicate n v ++ vs) (logical-replicate m p v is)
       ∙ replicate-append-replicate n (m * n) v
       ∙ ap (λ k. replicate k v) (add_comm n (m * n) ∙ sym (suc-mul m n))
+
+  -- the lanes of one value more are the next run of a list
+  pub lanes_more : (ps : List P) (p : P) (es : List V) (i : ℕ) → logical lanes ps ≡ take (i * n) es → lanes p ≡ take n (drop (i * n) es) → logical lanes (ps ++ p ∷ []) ≡ take ((i + 1) * n) es
+  lanes_more ps p es i done next =
+      let more : i * n + n ≡ (i + 1) * n = omega arith in
+      flat_map-append lanes ps (p ∷ [])
+      ∙ ap (λ vs. logical lanes ps ++ vs) (append-nil (lanes p))
+      ∙ (λ j. done j ++ next j)
+      ∙ sym (take-add (i * n) n es)
+      ∙ ap (λ k. take k es) more

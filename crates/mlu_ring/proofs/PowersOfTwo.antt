@@ -4,12 +4,15 @@ use Rattle.std.specs.Prelude.{IsTrue, count_ones, if◌then◌else◌}
 use Rattle.std.specs.Int.{is_power_of_two}
 use Rattle.std.specs.Int.Count.{count_trailing_zeros}
 use Rattle.std.proofs.lemmas.Nat.{ones_le_self, zero_from_ones}
-use Rattle.std.proofs.Math.Pow.{pow_mono}
+use Rattle.std.proofs.Math.Pow.{pow_mono, pow-lt}
 use lib.Count.{ones_step, ones-ones}
 
 -- the exponent of a power of two that fits a word is below its bits
 pub exponent_fits : (k : ℕ) → 2 ^ k < 2 ^ 64 → k < 64
 exponent_fits k h = grind (arith, pow_mono {i = 64} {j = k})
+
+pub power_injective : (j k : ℕ) → 2 ^ j ≡ 2 ^ k → j ≡ k
+power_injective j k e = grind (arith, pow-lt {i = j} {j = k}, pow-lt {i = k} {j = j}, e)
 
 even_power : (k : ℕ) → 2 ^ suc k % 2 ≡ 0
 even_power k = omega arith

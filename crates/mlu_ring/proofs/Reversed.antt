@@ -1,11 +1,13 @@
 -- Indexes with their bits reversed, and the table in that order.
-use Rattle.std.proofs.Common.{◌≡◌, ℕ, zero, suc, ◌+◌, ◌*◌, ◌/◌, ◌%◌, ◌^◌, ◌<◌, List, [], ◌∷◌, ◌++◌, map, length, refl, sym, ap, ◌∙◌, arith, zero-add, length-append}
+use Rattle.std.proofs.Common.{◌≡◌, ℕ, zero, suc, ◌+◌, ◌-◌, ◌*◌, ◌/◌, ◌%◌, ◌^◌, ◌<◌, List, [], ◌∷◌, ◌++◌, map, length, refl, sym, ap, ◌∙◌, arith, zero-add, length-append}
+use Rattle.std.proofs.Math.Nat.{div-div-eq-div-mul, div-one}
 use Rattle.std.proofs.lemmas.List.{map-append}
 use Rattle.std.proofs.lemmas.List.FromFn.{length-map-range_with_len}
 use Rattle.std.specs.List.{range_with_len}
 use Rattle.mlu_ring.specs.Ring.{Ring, RingLaws}
 use Rattle.mlu_ring.specs.Sums.{product_below}
 use Rattle.mlu_ring.specs.Tables.{bit, rev, weight, lsb}
+use Rattle.mlu_ring.proofs.Bits.{bit-first_low, bit-first_high, bit-rest_low, bit-rest_high}
 use Rattle.mlu_ring.proofs.Rings.{sum_product, product_negation, negation_product, product_left_comm, product_one}
 use Rattle.mlu_ring.proofs.SumsBelow.{map_from}
 use Rattle.mlu_ring.proofs.Doubling.{map_range-add, map_twice}
@@ -30,6 +32,49 @@ below (suc (suc b)) n r h k = absurd (omega arith)
 pub rev-lt : (n x : ℕ) → rev n x < 2 ^ n
 rev-lt zero x = rw (rev-zero x) (omega arith)
 rev-lt (suc n) x = rw (rev-suc n x) (below (x % 2) n (rev n (x / 2)) (omega arith) (rev-lt n (x / 2)))
+
+top_bit : (n b r : ℕ) → b < 2 → r < 2 ^ n → bit (suc n) 0 (b * 2 ^ n + r) ≡ b
+top_bit n zero r h k =
+    let none : 0 * 2 ^ n + r ≡ r = omega arith in
+    rw none (bit-first_low n r k)
+top_bit n (suc zero) r h k =
+    let one : 1 * 2 ^ n + r ≡ 2 ^ n + r = omega arith in
+    rw one (bit-first_high n r k)
+top_bit n (suc (suc b)) r h k = absurd (omega arith)
+
+other_bits : (n i b r : ℕ) → i < n → b < 2 → bit (suc n) (suc i) (b * 2 ^ n + r) ≡ bit n i r
+other_bits n i zero r h k =
+    let none : 0 * 2 ^ n + r ≡ r = omega arith in
+    rw none (bit-rest_low n i r)
+other_bits n i (suc zero) r h k =
+    let one : 1 * 2 ^ n + r ≡ 2 ^ n + r = omega arith in
+    rw one (bit-rest_high n i r h)
+other_bits n i (suc (suc b)) r h k = absurd (omega arith)
+
+last_bit : (n x : ℕ) → bit (suc n) (suc n - 1 - 0) x ≡ x % 2
+unfolding bit
+last_bit n x =
+    let none : suc n - 1 - (suc n - 1 - 0) ≡ 0 = omega arith in
+    rw none (ap (λ t. t % 2) (div-one x))
+
+halved : (n i x : ℕ) → i < n → bit n (n - 1 - i) (x / 2) ≡ bit (suc n) (suc n - 1 - suc i) x
+unfolding bit
+halved n i x h =
+    let fewer : n - 1 - (n - 1 - i) ≡ i = omega arith in
+    let more : suc n - 1 - (suc n - 1 - suc i) ≡ suc i = omega arith in
+    let twice : 2 ^ suc i ≡ 2 * 2 ^ i = omega arith in
+    rw (fewer, more, twice) (ap (λ t. t % 2) (div-div-eq-div-mul x 2 (2 ^ i)))
+
+-- bit i of the index with its bits reversed is bit n - 1 - i of the index
+pub bit-rev : (n i x : ℕ) → i < n → bit n i (rev n x) ≡ bit n (n - 1 - i) x
+bit-rev zero i x h = absurd (omega arith)
+bit-rev (suc n) zero x h =
+    rw (rev-suc n x) (top_bit n (x % 2) (rev n (x / 2)) (omega arith) (rev-lt n (x / 2)) ∙ sym (last_bit n x))
+bit-rev (suc n) (suc i) x h =
+    rw (rev-suc n x)
+    (other_bits n i (x % 2) (rev n (x / 2)) (omega arith) (omega arith)
+    ∙ bit-rev n i (x / 2) (omega arith)
+    ∙ halved n i x (omega arith))
 
 -- an index of the lower half: its top bit becomes the lowest one
 pub rev-low : (n x : ℕ) → x < 2 ^ n → rev (suc n) x ≡ rev n x * 2 + 0

@@ -4,8 +4,8 @@ ghost use Rattle.mlu_ring.specs.Tables.{IsAffineInEach};
 
 use crate::additive::Additive;
 
-/// A function of the points of so many coordinates, affine in each of them: with `c` at any place
-/// it is `1 - c` times what it is with 0 there, plus `c` times what it is with 1 there.
+/// A function of points of a fixed number of coordinates, affine in each of them: with `c` at any
+/// place it is `1 - c` times what it is with 0 there, plus `c` times what it is with 1 there.
 ///
 /// Such a function is known everywhere once it is known at the vertices.
 pub trait AffineInEach<EF: Additive> {

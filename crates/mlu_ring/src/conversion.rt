@@ -4,7 +4,7 @@ ghost use Rattle.mlu_ring.specs.Ring.{IsRingMap};
 
 use crate::additive::Additive;
 
-/// A conversion of the elements of `EF`.
+/// A ring in which each element of `EF` has an image; sums and products need not be kept.
 pub trait MapFrom<EF: Additive>: Additive {
     ghost image: { EF → Self };
 

@@ -1,5 +1,5 @@
 //! Rings with a packed form, and sums of products in them.
-ghost use Rattle.std.specs.Prelude.{◌≡◌, ◌<◌, ◌^◌, ℕ, length, map};
+ghost use Rattle.std.specs.Prelude.{◌≡◌, ◌<◌, ℕ, length, map};
 ghost use Rattle.mlu_ring.specs.Lanes.{splat_of};
 ghost use Rattle.mlu_ring.specs.Tables.{pair};
 

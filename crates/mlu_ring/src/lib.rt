@@ -1,8 +1,9 @@
 //! Rings whose laws are proved, and the mathematics that every crate above names.
 //!
-//! The traits are those of the original crate, with laws: an implementation proves them, and
-//! generic code uses nothing else. Each of them speaks of one ghost record `ring`, the operations
-//! of a commutative ring, so that a definition is stated once and holds for every type.
+//! The traits that have names of `p3-field` are those, with laws; the others are this library's. An
+//! implementation proves the laws, and generic code uses nothing else. Each of them speaks of one
+//! ghost record `ring`, the operations of a commutative ring, so that a definition is stated once
+//! and holds for every type.
 //!
 //! Definitions stand in `specs/`: [`Ring`] and its laws, sums and products of lists, weights and
 //! values of tables, and what it means for a packed value to work lane by lane.

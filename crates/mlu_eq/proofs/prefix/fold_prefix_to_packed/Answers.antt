@@ -5,7 +5,7 @@ use Rattle.std.proofs.lemmas.Nat.{div-add-mod'}
 use Rattle.mlu_ring.specs.Lanes.{logical}
 use Rattle.mlu_ring.specs.Tables.{front, line}
 use Rattle.mlu_ring.proofs.Univariate.{length-front}
-use Rattle.mlu_eq.proofs.Groups.{lanes_more}
+use Rattle.mlu_ring.proofs.Logical.{lanes_more}
 use Rattle.mlu_eq.proofs.prefix.fold_prefix_to_packed.Goals as goal
 
 pub loop-i-preserved : goal.loop-i-preserved
@@ -17,7 +17,7 @@ loop-i-preserved g c =
     let i = c.loop-i.i in
     record {
       lanes = ap (logical lanes) c.push_reserved.ensures.items
-          ∙ lanes_more width lanes c.loop-i.folded.items c.fold_group_at.result folded i c.loop-i.invariant.lanes
+          ∙ lanes_more lanes width c.loop-i.folded.items c.fold_group_at.result folded i c.loop-i.invariant.lanes
           (c.fold_group_at.ensures ∙ ap (λ n. take width (drop (i * n) folded)) c.WIDTH-width.ensures);
       len = c.push_reserved.ensures.len ∙ ap (λ n. n + 1) c.loop-i.invariant.len;
       capacity = c.push_reserved.ensures.capacity ∙ c.loop-i.invariant.capacity;

@@ -2,7 +2,7 @@ use Rattle.std.proofs.Common.{◌≡◌, ◌+◌, ◌-◌, ◌*◌, ◌/◌, ◌
 use Rattle.std.proofs.Math.Seq.{take-length}
 use Rattle.std.proofs.lemmas.Nat.{div-add-mod'}
 use Rattle.mlu_ring.specs.Lanes.{logical}
-use Rattle.mlu_eq.proofs.Groups.{lanes_more}
+use Rattle.mlu_ring.proofs.Logical.{lanes_more}
 use Rattle.multilinear_util.proofs.packing.packed.Goals as goal
 
 pub loop-i-preserved : goal.loop-i-preserved
@@ -14,7 +14,7 @@ loop-i-preserved g c =
     let size : i * width + width - i * width ≡ width = omega arith in
     record {
       lanes = ap (logical lanes) c.push_reserved.ensures.items
-          ∙ lanes_more width lanes c.loop-i.elements.items c.from_ext_slice-packing.result evals i c.loop-i.invariant.lanes
+          ∙ lanes_more lanes width c.loop-i.elements.items c.from_ext_slice-packing.result evals i c.loop-i.invariant.lanes
           (c.from_ext_slice-packing.ensures ∙ ap (λ n. take (i * n + n - i * n) (drop (i * n) evals)) c.WIDTH-width.ensures ∙ ap (λ n. take n (drop (i * width) evals)) size);
       len = c.push_reserved.ensures.len ∙ ap (λ n. n + 1) c.loop-i.invariant.len;
       capacity = c.push_reserved.ensures.capacity ∙ c.loop-i.invariant.capacity;

@@ -1,7 +1,7 @@
 use Rattle.std.proofs.Common.{◌≡◌, ◌+◌, ◌*◌, ◌<◌, ◌≤◌, ◌∙◌, length, take, drop, ap, arith, length-drop}
 use Rattle.std.proofs.lemmas.List.{length-set, take-set-le, drop-set-add, take_more_set, take_all}
 use Rattle.mlu_ring.specs.Lanes.{logical}
-use Rattle.mlu_point.proofs.Pairs.{lanes_more}
+use Rattle.mlu_ring.proofs.Logical.{lanes_more}
 use Rattle.mlu_point.proofs.eq_batch.lanes.pack_four.Goals as goal
 
 pub loop-b-preserved : goal.loop-b-preserved
