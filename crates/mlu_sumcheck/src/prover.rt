@@ -1,5 +1,6 @@
 //! The prover: rounds of two tables, and the tables folded at the challenges.
 ghost use Rattle.std.specs.Prelude.{◌≡◌, ◌+◌, ◌/◌, ◌^◌, ◌<◌, ◌∷◌, [], length, slice_index_or, suc, IfOk};
+ghost use Rattle.std.specs.Vec.{vec_capacity};
 ghost use Rattle.mlu_ring.specs.Tables.{front, line, pair, value};
 ghost use Rattle.multilinear_util.specs.Split.{split_entries};
 ghost use Rattle.mlu_sumcheck.specs.Rounds.{lower, step, round, rounds_of, AddsUpTo, Fit};
@@ -135,6 +136,8 @@ pub fn run<F: Field, EF: ExtensionField<F> + SelfAlgebra>(
     requires weights_size { length (split_entries EF.ring weights.now) ≡ 2 ^ length challenges.now }
     ensures number_of_rounds { IfOk result (λ t. length t.rounds.items ≡ length challenges.now) }
     ensures number_of_claims { IfOk result (λ t. length t.claims.items ≡ suc (length challenges.now)) }
+    ensures exact_rounds { IfOk result (λ t. vec_capacity t.rounds ≡ length challenges.now) }
+    ensures exact_claims { IfOk result (λ t. vec_capacity t.claims ≡ suc (length challenges.now)) }
     ensures first { IfOk result (λ t. slice_index_or t.claims.items 0 EF.ring.zero
         ≡ pair EF.ring (split_entries EF.ring weights.now) poly.now) }
     ensures rounds { IfOk result (λ t. t.rounds.items ≡ rounds_of EF.ring (split_entries EF.ring weights.now) poly.now challenges.now) }
@@ -148,7 +151,7 @@ pub fn run<F: Field, EF: ExtensionField<F> + SelfAlgebra>(
     let weights = weights.materialize(alloc)?;
     let mut rounds = Vec::with_capacity(alloc, variables)?;
     let mut claims = Vec::with_capacity(alloc, variables + 1)?;
-    claims.push(first)?;
+    claims.push_reserved(first);
     let mut poly = poly;
     let mut weights = weights;
     let mut claim = first;
@@ -160,9 +163,9 @@ pub fn run<F: Field, EF: ExtensionField<F> + SelfAlgebra>(
             claim,
         );
         bind(&mut poly, &mut weights, r);
-        rounds.push([constant, linear, quadratic])?;
+        rounds.push_reserved([constant, linear, quadratic]);
         claim = value_at(constant, linear, quadratic, r);
-        claims.push(claim)?;
+        claims.push_reserved(claim);
     }
     Ok(Transcript { rounds, claims })
 }

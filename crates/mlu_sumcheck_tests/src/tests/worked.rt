@@ -1,5 +1,5 @@
 //! The values 1, 2, 3, 4 with the weights of the point (2, 3), at the challenges 5 and 7.
-ghost use Rattle.std.specs.Prelude.{◌≡◌, ◌*◌, ◌<◌, ◌^◌, IfOk, length};
+ghost use Rattle.std.specs.Prelude.{◌*◌, ◌<◌, ◌^◌};
 ghost use Rattle.std.specs.Mem.{type_size};
 
 use mlu_ring::{Additive, ExtensionField, Field, PrimeCharacteristicRing, SelfAlgebra};
@@ -71,25 +71,32 @@ pub fn verifies<EF: PrimeCharacteristicRing>(alloc: Global) -> Result<bool, Allo
     )
 }
 
-/// Whether the law can be named for what `run` gives.
-pub fn names_the_law<F: Field, EF: ExtensionField<F> + SelfAlgebra>(
-    alloc: Global,
-) -> Result<bool, AllocError>
+/// Whether the law can be named for a false claim that passes: the last claim is the product of both
+/// values.
+pub fn names_the_law<F: Field, EF: ExtensionField<F>>(alloc: Global) -> Result<bool, AllocError>
     requires two_rounds_fit { 6 * type_size EF.row < 2 ^ 63 }
 {
     let poly = table::<EF>(alloc, &[1, 2, 3, 4])?;
-    let point = point::<EF>(alloc, &[2, 3])?;
-    let split = SplitEq::<F, EF>::new_packed(alloc, &point, EF::ONE)?;
-    let challenges = elements::<EF>(alloc, &[5, 7])?;
-    let challenges = challenges.as_slice();
-    let weights = split.materialize(alloc)?;
-    let Transcript { rounds, claims } = run(alloc, &poly, &split, challenges)?;
+    let weights = table::<EF>(alloc, &[2, -3, -4, 6])?;
+    let point = point::<EF>(alloc, &[5, 7])?;
+    let challenges = point.as_slice();
+    let rounds = [round([1, -1, 8]), round([-308, 742, 70])];
+    let nine = element(9);
+    let Some(last) = verify(nine, &rounds, challenges) else {
+        return Ok(false);
+    };
+    let weight = weights.eval_ext::<F>(alloc, &point)?;
+    let value = poly.eval_ext::<F>(alloc, &point)?;
+    if last != weight * value {
+        return Ok(false);
+    }
     laws::caught(
         poly.as_slice(),
         weights.as_slice(),
-        claims.as_slice(),
-        rounds.as_slice(),
+        nine,
+        last,
+        &rounds,
         challenges,
     );
-    Ok(are(claims.as_slice(), &[8, 196, 8316]))
+    Ok(last == element(8316))
 }

@@ -1,6 +1,7 @@
 use Rattle.std.proofs.Common.{◌≡◌, ◌+◌, ◌-◌, ◌<◌, ◌∷◌, [], suc, length, take, ap, sym, ◌∙◌, arith}
 use Rattle.std.proofs.lemmas.Nat.{pow_pos}
 use Rattle.mlu_ring.specs.Tables.{front, line, pair, univariate}
+use Rattle.mlu_ring.proofs.PowersOfTwo.{power_injective}
 use Rattle.mlu_ring.proofs.Tabulated.{tabulate}
 use Rattle.multilinear_util.specs.Split.{split_entries}
 use Rattle.mlu_sumcheck.specs.Rounds.{round, folded, round_at}
@@ -44,6 +45,13 @@ bind-requires-clause-variable g c =
     let e = ap length c.loop-challenge.invariant.poly ∙ halves-folded_at g.EF.Additive.ring challenges c.args.poly.now i c.requires.poly_size below in
     omega (arith, e, pow_pos (length challenges - suc i))
 
+pub push_reserved-requires-in-loop-challenge : goal.push_reserved-requires-in-loop-challenge
+push_reserved-requires-in-loop-challenge g c =
+    let same = power_injective _ _ (sym c.num_variables-variables.ensures.value ∙ c.requires.poly_size) in
+    let len = c.loop-challenge.invariant.rounds_len in
+    let room = c.loop-challenge.invariant.rounds_room in
+    omega (arith, c.loop-challenge-test.true, same, len, room)
+
 pub loop-challenge-preserved : goal.loop-challenge-preserved
 loop-challenge-preserved g c =
     let ring = g.EF.Additive.ring in
@@ -64,9 +72,13 @@ loop-challenge-preserved g c =
     record {
       poly = c.bind.ensures.poly_folded ∙ ap (front ring (line ring r)) invariant.poly ∙ sym (folded-take_more ring challenges e i r below c.challenge-item.is) ∙ ap (λ k. folded ring (take k challenges) e) next;
       weights = c.bind.ensures.weights_folded ∙ ap (front ring (line ring r)) invariant.weights ∙ sym (folded-take_more ring challenges w i r below c.challenge-item.is) ∙ ap (λ k. folded ring (take k challenges) w) next;
-      rounds = tabulate-pushed i (round_at ring w e challenges) c.loop-challenge.rounds.items c.push-in-loop-challenge.new.self.items (c.coefficients_of_claim-constant.result.0 ∷ c.coefficients_of_claim-constant.result.1 ∷ c.coefficients_of_claim-constant.result.2 ∷ []) invariant.rounds c.in_ok-push-2.ensures.items made ∙ ap (λ k. tabulate k (round_at ring w e challenges)) next;
+      rounds = tabulate-pushed i (round_at ring w e challenges) c.loop-challenge.rounds.items c.push_reserved-in-loop-challenge.new.self.items (c.coefficients_of_claim-constant.result.0 ∷ c.coefficients_of_claim-constant.result.1 ∷ c.coefficients_of_claim-constant.result.2 ∷ []) invariant.rounds c.push_reserved-in-loop-challenge.ensures.items made ∙ ap (λ k. tabulate k (round_at ring w e challenges)) next;
       claim = claim ∙ ap (claim_at ring w e challenges) next;
-      claims = tabulate-pushed (suc i) (claim_at ring w e challenges) c.loop-challenge.claims.items c.push-in-loop-challenge-2.new.self.items c.value_at-claim.result invariant.claims c.in_ok-push-3.ensures.items claim ∙ ap (λ k. tabulate (suc k) (claim_at ring w e challenges)) next;
+      claims = tabulate-pushed (suc i) (claim_at ring w e challenges) c.loop-challenge.claims.items c.push_reserved-in-loop-challenge-2.new.self.items c.value_at-claim.result invariant.claims c.push_reserved-in-loop-challenge-2.ensures.items claim ∙ ap (λ k. tabulate (suc k) (claim_at ring w e challenges)) next;
+      rounds_len = c.push_reserved-in-loop-challenge.ensures.len ∙ ap (λ n. n + 1) invariant.rounds_len;
+      claims_len = c.push_reserved-in-loop-challenge-2.ensures.len ∙ ap (λ n. n + 1) invariant.claims_len;
+      rounds_room = c.push_reserved-in-loop-challenge.ensures.capacity ∙ invariant.rounds_room;
+      claims_room = c.push_reserved-in-loop-challenge-2.ensures.capacity ∙ invariant.claims_room;
     }
 
 pub returns-clause-number_of_rounds : goal.returns-clause-number_of_rounds
@@ -80,6 +92,15 @@ returns-clause-number_of_claims g c =
     let end : c.loop-challenge.challenge-index ≡ length c.args.challenges.now = omega (arith, c.loop-challenge-test.false) in
     let invariant = rw end at c.loop-challenge.invariant in
     length-transcript_claims g.EF.Additive.ring g.met.EF.Additive.laws (split_entries g.EF.Additive.ring c.args.weights.now) c.args.poly.now c.args.challenges.now c.requires.weights_size c.requires.poly_size _ _ invariant.rounds invariant.claims
+
+pub returns-clause-exact_rounds : goal.returns-clause-exact_rounds
+returns-clause-exact_rounds g c =
+    c.loop-challenge.invariant.rounds_room ∙ power_injective _ _ (sym c.num_variables-variables.ensures.value ∙ c.requires.poly_size)
+
+pub returns-clause-exact_claims : goal.returns-clause-exact_claims
+returns-clause-exact_claims g c =
+    let same = power_injective _ _ (sym c.num_variables-variables.ensures.value ∙ c.requires.poly_size) in
+    c.loop-challenge.invariant.claims_room ∙ omega (arith, same)
 
 pub returns-clause-fit : goal.returns-clause-fit
 returns-clause-fit g c =

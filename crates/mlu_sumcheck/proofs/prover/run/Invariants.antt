@@ -1,4 +1,5 @@
-use Rattle.std.proofs.Common.{◌≡◌, suc, take}
+use Rattle.std.proofs.Common.{◌≡◌, ◌+◌, suc, take}
+use Rattle.std.specs.Vec.{vec_capacity, vec_len}
 use Rattle.mlu_ring.proofs.Tabulated.{tabulate}
 use Rattle.multilinear_util.specs.Split.{split_entries}
 use Rattle.mlu_sumcheck.specs.Rounds.{folded, round_at}
@@ -17,4 +18,8 @@ invariant-loop-challenge g l =
       rounds : l.rounds.items ≡ tabulate i (round_at ring w e l.challenges);
       claim : l.claim ≡ claim_at ring w e l.challenges i;
       claims : l.claims.items ≡ tabulate (suc i) (claim_at ring w e l.challenges);
+      rounds_len : vec_len l.rounds ≡ i;
+      claims_len : vec_len l.claims ≡ i + 1;
+      rounds_room : vec_capacity l.rounds ≡ l.variables;
+      claims_room : vec_capacity l.claims ≡ l.variables + 1;
     }
