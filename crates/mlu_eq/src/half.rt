@@ -1,6 +1,6 @@
 //! The second half of a split table: its weights, as scalars or packed.
-ghost use Rattle.std.specs.Prelude.{◌≡◌, ◌<◌, ◌-◌, ◌^◌, length, map, slice_index_or, IfOk, IsOk, IsTrue, true, false};
-ghost use Rattle.std.specs.Vec.{vec_capacity};
+ghost use Rattle.std.specs.Prelude.{◌≡◌, ◌<◌, ◌≤◌, ◌+◌, ◌-◌, ◌*◌, ◌^◌, ◌++◌, length, map, slice_index_or, IfOk, IsOk, IsTrue, true, false};
+ghost use Rattle.std.specs.Vec.{vec_capacity, vec_len};
 ghost use Rattle.std.specs.Int.{is_power_of_two};
 ghost use Rattle.mlu_ring.specs.Lanes.{logical};
 ghost use Rattle.mlu_eq.specs.Half.{AreWeightsOf};
@@ -202,16 +202,38 @@ pub fn images<E: Additive, R: MapFrom<E>>(
     Ok(images)
 }
 
-/// The images of the lanes, in order.
+/// The images of the lanes, in order and in one allocation of exactly as many.
 fn lane_images<F: Field, EF: ExtensionField<F>, R: MapFrom<EF>>(
     alloc: Global,
     packed: &[EF::ExtensionPacking],
 ) -> Result<Vec<R>, AllocError>
-    ensures { IfOk result (λ images. images.items ≡ map R.image (logical EF.ExtensionPacking.ext_lanes packed.now)) }
+    ensures images { IfOk result (λ images. images.items ≡ map R.image (logical EF.ExtensionPacking.ext_lanes packed.now)) }
+    ensures exact { IfOk result (λ images. vec_capacity images ≡ length packed.now * F.Packing.WIDTH) }
 {
-    EF::ExtensionPacking::to_ext_iter(packed)
-        .map(|lane| R::map(lane))
-        .collect(alloc)
+    let lanes = packed
+        .len()
+        .checked_mul(<F::Packing as PackedValue>::WIDTH)
+        .ok_or(AllocError)?;
+    let mut images = Vec::with_capacity(alloc, lanes)?;
+    for value in packed {
+        push_lane_images::<F, EF, R>(&mut images, *value);
+    }
+    Ok(images)
+}
+
+/// Appends the images of the lanes of a value. Asks for room for all of them.
+fn push_lane_images<F: Field, EF: ExtensionField<F>, R: MapFrom<EF>>(
+    images: &mut Vec<R>,
+    value: EF::ExtensionPacking,
+)
+    requires { vec_len images.old + F.Packing.WIDTH ≤ vec_capacity images.old }
+    ensures items { images.new.items ≡ images.old.items ++ map R.image (EF.ExtensionPacking.ext_lanes value) }
+    ensures len { vec_len images.new ≡ vec_len images.old + F.Packing.WIDTH }
+    ensures capacity { vec_capacity images.new ≡ vec_capacity images.old }
+{
+    for k in 0..F::Packing::WIDTH {
+        images.push_reserved(R::map(value.ext_lane(k)));
+    }
 }
 
 /// The last element. Asks for one or more.

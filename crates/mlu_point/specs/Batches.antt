@@ -23,6 +23,10 @@ lower_share ring image scalar c = ring.minus scalar (ring.product scalar (image 
 abbrev pub AreShares : {C R : Type 0} → (R → C → R) → List R → List R → List C → Type 0
 AreShares {C} {R} share shares scalars coordinates = (i : ℕ) (d : R) (c : C) → i < length scalars → slice_index_or shares i d ≡ share (slice_index_or scalars i d) (slice_index_or coordinates i c)
 
+-- the four entries from `start` on are the shares of the scalars there at one coordinate
+abbrev pub AreFourShares : {C R : Type 0} → (R → C → R) → List R → List R → ℕ → C → Type 0
+AreFourShares {C} {R} share shares scalars start coordinate = (k : ℕ) (d : R) → start ≤ k → k < start + 4 → slice_index_or shares k d ≡ share (slice_index_or scalars k d) coordinate
+
 -- the elements two by two; of an odd number the last is left out
 abbrev pub pairs : {A : Type 0} → List A → List (A × A)
 pairs [] = []

@@ -4,7 +4,7 @@
 //! one share for the lower half of the output and one for the upper half. The first variables give
 //! the chunks of the output; in a chunk of enough variables the last ones are the lanes of shares of
 //! four packed values, and those between split these.
-ghost use Rattle.std.specs.Prelude.{◌≡◌, ℕ, ◌+◌, ◌-◌, ◌*◌, ◌<◌, ◌≤◌, ◌/◌, ◌^◌, ◌++◌, length, map, replicate, is_ok, IsOk, IfOk, if◌then◌else◌};
+ghost use Rattle.std.specs.Prelude.{◌≡◌, ◌+◌, ◌-◌, ◌*◌, ◌<◌, ◌≤◌, ◌/◌, ◌^◌, ◌++◌, length, map, replicate, is_ok, IsOk, IfOk, if◌then◌else◌};
 ghost use Rattle.mlu_point.specs.Batches.{with_batch, after_batch, IsRoom};
 
 mod evaluator;

@@ -1,5 +1,4 @@
 //! Batches of points.
-ghost use Rattle.std.specs.Prelude.{◌≡◌};
 
 use crate::outcome::{Outcome, is_served, judge, written};
 use crate::residues::{Call as AnyCall, residues, tried};

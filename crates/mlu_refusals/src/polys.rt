@@ -1,5 +1,5 @@
 //! Calls of a polynomial.
-ghost use Rattle.std.specs.Prelude.{◌≡◌, ◌≤◌, ◌<◌, length};
+ghost use Rattle.std.specs.Prelude.{◌≡◌, ◌<◌, length};
 
 use crate::given::{Receiver, is_poly, point, poly};
 use crate::outcome::{Outcome, judge, written};

@@ -26,6 +26,7 @@ pub enum Call {
     Successor(successors::Call),
     Sumcheck,
     ToField,
+    PackedToField,
     Unfailing(unfailing::Call),
     Words(evaluations::Call),
 }
@@ -50,7 +51,8 @@ fn made<F: Field + Sample, EF: ExtensionField<F> + SelfAlgebra, R: ExtensionFiel
         Call::Split(call) => splits::made::<F, EF>(alloc, call),
         Call::Successor(call) => successors::made::<F, EF>(alloc, call),
         Call::Sumcheck => sumchecks::made::<F, EF>(alloc),
-        Call::ToField => splits::converted::<F, EF, R>(alloc),
+        Call::ToField => splits::converted::<F, EF, R>(alloc, false),
+        Call::PackedToField => splits::converted::<F, EF, R>(alloc, true),
         Call::Unfailing(call) => unfailing::made::<F, EF>(alloc, call),
         Call::Words(call) => words(alloc, call),
     }

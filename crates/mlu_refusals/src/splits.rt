@@ -81,6 +81,17 @@ pub fn split<F: Field, EF: ExtensionField<F>>(
     SplitEq::new_unpacked(alloc, point, EF::ONE)
 }
 
+/// The same table, with packed weights in its second half.
+fn packed_split<F: Field, EF: ExtensionField<F>>(
+    alloc: Global,
+    point: &Point<EF>,
+) -> Result<SplitEq<F, EF>, AllocError>
+    requires { length point.now ≡ 3 }
+    ensures { IfOk result (λ split. length (split_entries EF.ring split) ≡ 8) }
+{
+    SplitEq::new_packed(alloc, point, EF::ONE)
+}
+
 /// Whether the table has the weights of the point (2, 3, 5), which are added to `zeros`.
 pub fn has_weights<F: Field, EF: ExtensionField<F>>(
     split: &SplitEq<F, EF>,
@@ -187,13 +198,18 @@ fn clone_half<F: Field, EF: ExtensionField<F>>(
     Ok(split.eq1().try_clone(alloc)?.last_scalar() == element(15))
 }
 
-/// A conversion, with its table.
+/// A conversion of scalars or of packed weights, with its table.
 pub fn converted<F: Field, EF: ExtensionField<F>, R: ExtensionField<R> + MapFrom<EF>>(
     alloc: Global,
+    is_packed: bool,
 ) -> Result<Outcome, AllocError> {
     let point = point::<EF>(alloc)?;
     let mut zeros = EF::zero_vec(alloc, 8)?;
-    let split = split::<F, EF>(alloc, &point)?;
+    let split = if is_packed {
+        packed_split::<F, EF>(alloc, &point)?
+    } else {
+        split::<F, EF>(alloc, &point)?
+    };
     let answered = to_field::<F, EF, R>(alloc, &split);
     Ok(judge(answered, has_weights(&split, zeros.as_mut_slice())))
 }
@@ -294,6 +310,15 @@ fn copied_half(rt: HostRuntime) -> Result<(), Fail> {
 #[test]
 fn converted_split(rt: HostRuntime) -> Result<(), Fail> {
     tried(&rt, "SplitEq::to_field", AnyCall::ToField)
+}
+
+#[test]
+fn converted_lanes(rt: HostRuntime) -> Result<(), Fail> {
+    tried(
+        &rt,
+        "SplitEq::to_field of packed weights",
+        AnyCall::PackedToField,
+    )
 }
 
 #[test]

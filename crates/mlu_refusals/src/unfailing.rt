@@ -1,5 +1,5 @@
 //! Calls that ask for no memory, so that they do not fail whichever allocation is refused.
-ghost use Rattle.std.specs.Prelude.{◌≡◌, length};
+ghost use Rattle.std.specs.Prelude.{◌≡◌};
 
 use crate::given::{is_poly, point, poly};
 use crate::outcome::{Outcome, is_served, judge, written};

@@ -1,5 +1,5 @@
 //! The split table, times a scale, added to an output.
-ghost use Rattle.std.specs.Prelude.{◌≡◌, ◌*◌, length, map, IsTrue};
+ghost use Rattle.std.specs.Prelude.{◌≡◌, ◌*◌, length, IsTrue};
 ghost use Rattle.mlu_ring.specs.Sums.{plus_scaled};
 ghost use Rattle.mlu_ring.specs.Lanes.{logical};
 ghost use Rattle.mlu_eq.specs.Split.{contents};

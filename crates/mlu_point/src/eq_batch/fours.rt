@@ -2,7 +2,7 @@
 //! four.
 ghost use Rattle.std.specs.Prelude.{◌≡◌, ℕ, ◌+◌, ◌*◌, ◌%◌, ◌<◌, ◌≤◌, length, slice_index_or};
 ghost use Rattle.mlu_ring.specs.Sums.{sum_of};
-ghost use Rattle.mlu_point.specs.Batches.{lower_share, upper_share, pair_image, pair_ring, pairs, AreShares};
+ghost use Rattle.mlu_point.specs.Batches.{lower_share, upper_share, pair_image, pair_ring, pairs, AreFourShares, AreShares};
 
 use crate::evaluator::EqualityEvaluator;
 use mlu_ring::{Additive, PrimeCharacteristicRing};
@@ -39,8 +39,8 @@ fn split_four<C: Additive, S: PrimeCharacteristicRing, E: EqualityEvaluator<C, S
 )
     requires low { start + 4 ≤ length low.old }
     requires high { length high.old ≡ length low.old }
-    ensures upper { (k : ℕ) (d : S) → start ≤ k → k < start + 4 → slice_index_or high.new k d ≡ upper_share S.ring E.image (slice_index_or low.old k d) coordinate }
-    ensures lower { (k : ℕ) (d : S) → start ≤ k → k < start + 4 → slice_index_or low.new k d ≡ lower_share S.ring E.image (slice_index_or low.old k d) coordinate }
+    ensures upper { AreFourShares (upper_share S.ring E.image) high.new low.old start coordinate }
+    ensures lower { AreFourShares (lower_share S.ring E.image) low.new low.old start coordinate }
     ensures before_high { (k : ℕ) (d : S) → k < start → slice_index_or high.new k d ≡ slice_index_or high.old k d }
     ensures before_low { (k : ℕ) (d : S) → k < start → slice_index_or low.new k d ≡ slice_index_or low.old k d }
     ensures after { (k : ℕ) (d : S) → start + 4 ≤ k → slice_index_or low.new k d ≡ slice_index_or low.old k d }

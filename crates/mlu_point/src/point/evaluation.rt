@@ -1,5 +1,6 @@
 //! Points made from a number or an element, and values at a point that need no table.
-ghost use Rattle.std.specs.Prelude.{◌≡◌, ◌-◌, ◌^◌, ◌<◌, ◌++◌, ℕ, [], length, map, flat_map, slice_index_or, EachIndex, IfOk, IsOk, if◌then◌else◌};
+ghost use Rattle.std.specs.Prelude.{◌≡◌, ◌+◌, ◌-◌, ◌*◌, ◌^◌, ◌<◌, ◌≤◌, ◌++◌, [], length, map, flat_map, slice_index_or, EachIndex, IfOk, IsOk, if◌then◌else◌};
+ghost use Rattle.std.specs.Vec.{vec_capacity, vec_len};
 ghost use Rattle.mlu_ring.specs.Tables.{weights, value, vertex, powers};
 ghost use Rattle.mlu_ring.specs.Matrices.{dimension, transposed};
 ghost use Rattle.mlu_point.specs.Powers.{powers_below};
@@ -133,13 +134,14 @@ impl<F: Field> Point<F> {
         requires equal { EachIndex points.now (λ i. length (slice_index_or points.now i []) ≡ dimension points.now) }
         ensures values { IfOk result (λ matrix. matrix.values.items ≡ flat_map (λ row. row) (transposed F.ring points.now rev_order)) }
         ensures width { IfOk result (λ matrix. matrix.width ≡ length points.now) }
+        ensures exact { IfOk result (λ matrix. vec_capacity matrix.values ≡ dimension points.now * length points.now) }
         ensures none { dimension points.now ≡ 0 → IsOk result }
     {
         let k = points[0].num_variables();
         let size = k.checked_mul(points.len()).ok_or(AllocError)?;
         let mut values = Vec::with_capacity(alloc, size)?;
         for j in 0..k {
-            push_coordinates(&mut values, points, source_of(j, k, rev_order))?;
+            push_coordinates(&mut values, points, source_of(j, k, rev_order));
         }
         Ok(RowMajorMatrix::new(values, points.len()))
     }
@@ -181,17 +183,15 @@ fn source_of(j: usize, k: usize, reversed: bool) -> usize
     if reversed { k - 1 - j } else { j }
 }
 
-/// Appends one coordinate of each point. Asks that each has it.
-fn push_coordinates<F: Field>(
-    values: &mut Vec<F>,
-    points: &[Point<F>],
-    place: usize,
-) -> Result<(), AllocError>
-    requires { EachIndex points.now (λ i. place < length (slice_index_or points.now i [])) }
-    ensures { IfOk result (λ _. values.new.items ≡ values.old.items ++ map (λ point. slice_index_or point place F.ring.zero) points.now) }
+/// Appends one coordinate of each point. Asks that each has it, and that there is room for all.
+fn push_coordinates<F: Field>(values: &mut Vec<F>, points: &[Point<F>], place: usize)
+    requires coordinates { EachIndex points.now (λ i. place < length (slice_index_or points.now i [])) }
+    requires room { vec_len values.old + length points.now ≤ vec_capacity values.old }
+    ensures items { values.new.items ≡ values.old.items ++ map (λ point. slice_index_or point place F.ring.zero) points.now }
+    ensures len { vec_len values.new ≡ vec_len values.old + length points.now }
+    ensures capacity { vec_capacity values.new ≡ vec_capacity values.old }
 {
     for point in points {
-        values.push(point[place])?;
+        values.push_reserved(point[place]);
     }
-    Ok(())
 }

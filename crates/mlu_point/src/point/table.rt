@@ -1,5 +1,5 @@
 //! Equality tables, each coordinate split off in place, and the weight of one vertex.
-ghost use Rattle.std.specs.Prelude.{◌≡◌, ◌↔◌, ◌+◌, ◌/◌, ◌%◌, ◌^◌, ◌<◌, ◌≤◌, IsTrue, length, map, IfOk, MatchOption};
+ghost use Rattle.std.specs.Prelude.{◌≡◌, ◌↔◌, ◌+◌, ◌/◌, ◌%◌, ◌^◌, ◌<◌, IsTrue, length, map, MatchOption};
 ghost use Rattle.mlu_ring.specs.Tables.{factor};
 ghost use Rattle.mlu_point.specs.Orders.{weights_by, with_top};
 ghost use Rattle.mlu_point.specs.Vertices.{IsWeightAt};

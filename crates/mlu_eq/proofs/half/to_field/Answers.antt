@@ -18,4 +18,4 @@ from_scalars-requires-in-Packed g c =
     let long = g.met.EF.ExtensionPacking.PackedFieldExtension.lanes_are.length-parts in
     let packed = c.as_slice-in-Packed.result.now in
     power_of_lanes (length packed) n g.F.Packing.PackedValue.LOG_WIDTH _ c.as_slice-in-Packed.type_inv.0 c.as_slice-in-Packed.ensures.power g.met.F.Packing.PackedValue.width_is
-    (ap length c.in_ok-images-in-Packed.ensures ∙ length-map (logical lanes packed) g.R.MapFrom.image ∙ length-logical lanes n long packed)
+    (ap length c.in_ok-images-in-Packed.ensures.images ∙ length-map (logical lanes packed) g.R.MapFrom.image ∙ length-logical lanes n long packed)
