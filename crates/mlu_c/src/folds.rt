@@ -1,5 +1,5 @@
 //! Folds of the first and of the last variable, in place.
-ghost use Rattle.std.specs.Prelude.{◌≡◌, ◌<◌};
+ghost use Rattle.std.specs.Prelude.{◌<◌};
 ghost use Rattle.mlu_ring.specs.Tables.{front, back, line};
 ghost use Rattle.mlu_c.specs.Calls.{Folds};
 ghost use Rattle.mlu_c.specs.Codings.{AreResidues, element_count};

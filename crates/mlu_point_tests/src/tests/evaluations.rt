@@ -1,5 +1,5 @@
 //! Points made of numbers, and values at a point that need no table.
-ghost use Rattle.std.specs.Prelude.{◌≡◌, ◌<◌, ◌^◌, IfOk, length, vec_len};
+ghost use Rattle.std.specs.Prelude.{◌<◌, length};
 
 use mlu_point::point::{Point, Successor};
 use mlu_ring::{Additive, Algebra, ExtensionField, Field, PrimeCharacteristicRing, Sample};

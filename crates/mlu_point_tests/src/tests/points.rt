@@ -58,10 +58,16 @@ pub fn growth<R: Additive>(alloc: Global) -> Result<bool, AllocError> {
     Ok(same && grown && last && kept && point.into_iter().count() == 3)
 }
 
-/// Two draws, which differ.
+/// Two draws, which differ; the coordinates of the first are drawn in order.
 pub fn draws<T: Sample + Copy + Eq>(alloc: Global) -> Result<bool, AllocError> {
     let mut rng = Pcg32::new(1, 54);
     let first: Point<T> = Point::rand(alloc, &mut rng, 8)?;
     let second: Point<T> = Point::rand(alloc, &mut rng, 8)?;
+    let mut again = Pcg32::new(1, 54);
+    for coordinate in first.as_slice() {
+        if *coordinate != T::sample(&mut again) {
+            return Ok(false);
+        }
+    }
     Ok(first.num_variables() == 8 && first != second)
 }

@@ -1,5 +1,5 @@
 //! The weights of points.
-ghost use Rattle.std.specs.Prelude.{◌≡◌, ◌<◌, ◌≤◌, length};
+ghost use Rattle.std.specs.Prelude.{◌<◌, ◌≤◌};
 
 use mlu_point::point::{BitOrder, Point, PointView, fill_embedded_equality_table};
 use mlu_ring::{

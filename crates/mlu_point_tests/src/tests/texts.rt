@@ -1,6 +1,6 @@
-//! What `{:?}` prints of points.
+//! What `{:?}` prints of points, orders and rules.
 use mlu_lanes::WrappingU64;
-use mlu_point::point::{Point, PointView};
+use mlu_point::point::{BitOrder, Point, PointView, Successor};
 use mlu_test_support::numbers::elements;
 use mlu_test_support::texts::debug_text;
 use std::test::Fail;
@@ -22,5 +22,17 @@ fn points(rt: HostRuntime) -> Result<(), Fail> {
         debug_text(rt.alloc(), &empty)?.as_str(),
         "PointView { coords: [] }"
     );
+    Ok(())
+}
+
+#[test]
+fn orders_and_rules(rt: HostRuntime) -> Result<(), Fail> {
+    assert_eq!(rt; debug_text(rt.alloc(), &BitOrder::Msb)?.as_str(), "Msb");
+    assert_eq!(rt; debug_text(rt.alloc(), &BitOrder::Lsb)?.as_str(), "Lsb");
+    assert_eq!(rt;
+        debug_text(rt.alloc(), &Successor::RepeatLast)?.as_str(),
+        "RepeatLast"
+    );
+    assert_eq!(rt; debug_text(rt.alloc(), &Successor::Wrap)?.as_str(), "Wrap");
     Ok(())
 }

@@ -106,11 +106,17 @@ fn grows_and_shrinks(rt: HostRuntime) -> Result<(), Fail> {
     Ok(())
 }
 
-/// Whether two draws differ.
+/// Whether two draws differ, and the values of the first are drawn in order.
 pub fn draws_two<R: PartialEq + Copy + Sample>(alloc: Global) -> Result<bool, AllocError> {
     let mut rng = Pcg32::new(1, 54);
     let first = Poly::<R>::rand(alloc, &mut rng, 3)?;
     let second = Poly::<R>::rand(alloc, &mut rng, 3)?;
+    let mut again = Pcg32::new(1, 54);
+    for value in first.as_slice() {
+        if *value != R::sample(&mut again) {
+            return Ok(false);
+        }
+    }
     Ok(first.num_evals() == 8 && first != second)
 }
 
