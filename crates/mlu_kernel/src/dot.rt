@@ -53,7 +53,7 @@ fn compress_by_columns<F: Field, EF: ExtensionField<F>, const D: usize>(
     requires short { length eq1.now ≤ MOST_WEIGHTS }
     requires small { type_size F.Packing.row < SMALL_BYTES }
     requires entries { length chunk.now ≡ length eq0.now * (length eq1.now * F.Packing.WIDTH) }
-    ensures { result ≡ double_sum EF.ring eq0.now
+    ensures sum { result ≡ double_sum EF.ring eq0.now
         (logical EF.ExtensionPacking.ext_lanes eq1.now) (map EF.embed chunk.now) }
 {
     let split = split_coefficients::<F, EF, D>(eq1);

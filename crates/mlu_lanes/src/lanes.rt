@@ -32,7 +32,7 @@ impl<F: Copy, const W: usize> Copy for Lanes<F, W> {}
 impl<F: Copy, const W: usize> Lanes<F, W> {
     ghost use Rattle.mlu_lanes.specs.LaneRing.{values_of};
 
-    /// The lanes of an array.
+    /// The packed value with these lanes.
     #[inline]
     pub fn from_array(values: [F; W]) -> Self
         ensures { values_of result ≡ values }

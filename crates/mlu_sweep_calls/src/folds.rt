@@ -1,5 +1,5 @@
 //! Polynomials with their first or last variable fixed.
-ghost use Rattle.std.specs.Prelude.{◌≡◌, ◌<◌, ◌≤◌, length};
+ghost use Rattle.std.specs.Prelude.{◌<◌};
 
 use crate::report::Report;
 use mlu_ring::{Additive, Algebra, ExtensionField, Field, PackedValue};

@@ -1,5 +1,5 @@
 //! The calls of `mlu_eq` on split tables by themselves: first halves of any length, none too.
-ghost use Rattle.std.specs.Prelude.{◌≡◌, ◌*◌, ◌<◌, ◌^◌, IsTrue, length};
+ghost use Rattle.std.specs.Prelude.{◌≡◌, ◌*◌, ◌<◌, length};
 
 use crate::definitions::{plus_rows, plus_scaled};
 use crate::draws::{element, elements};

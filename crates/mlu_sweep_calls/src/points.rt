@@ -1,5 +1,4 @@
 //! Values at a point without a table.
-ghost use Rattle.std.specs.Prelude.{◌≡◌, length};
 
 use crate::definitions::{next_by, powers, table};
 use crate::draws::{element, elements};

@@ -1,5 +1,4 @@
 //! Polynomials at a point, and tables of the point, without a split table between.
-ghost use Rattle.std.specs.Prelude.{◌≡◌, ◌*◌, ◌≤◌, ◌^◌, length};
 
 use crate::definitions::{next_by, table};
 use crate::report::Report;

@@ -1,5 +1,5 @@
 //! The calls of `mlu_eq` over slices by themselves: folds of any number of entries, and values.
-ghost use Rattle.std.specs.Prelude.{◌≡◌, ◌<◌, ◌^◌, ◌/◌, ◌%◌, length};
+ghost use Rattle.std.specs.Prelude.{◌<◌, ◌/◌};
 
 use crate::definitions::table;
 use crate::draws::{element, elements};

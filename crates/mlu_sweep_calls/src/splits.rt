@@ -1,5 +1,5 @@
 //! Split tables, made both ways, beside the table of their point.
-ghost use Rattle.std.specs.Prelude.{◌≡◌, ◌*◌, ◌≤◌, length};
+ghost use Rattle.std.specs.Prelude.{◌≡◌, ◌*◌, length};
 ghost use Rattle.multilinear_util.specs.Split.{split_entries};
 
 use crate::definitions::{next_by, plus_scaled, table, two_and_steps};

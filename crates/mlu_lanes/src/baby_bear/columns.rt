@@ -22,10 +22,10 @@ const GROUP: usize = 4;
 const MOST_PLACES: usize = 1073741824;
 
 /// Coefficient `a` of each element of `l` as a row, times the matrix whose rows are the four
-/// coefficients of those of `r`. Asks for slices of one length, that elements have four
-/// coefficients, and for one of them.
+/// coefficients of those of `r`. Asks for slices of one length, for elements of four coefficients,
+/// and that `a` is below 4.
 ///
-/// A dot of quartics is four of these. Each sum is reduced once, for any number of places.
+/// A dot of quartics is four of these. Each sum is reduced once for each 2^30 places.
 #[inline(always)]
 pub fn column_times_rows<const W: usize, E: Coefficients<BabyBear<W>>>(
     l: &[E],

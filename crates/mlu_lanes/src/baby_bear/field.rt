@@ -1,5 +1,4 @@
 //! The packed form of the prime field. Products are made in vectors, each lane reduced once.
-ghost use Rattle.std.specs.Prelude.{◌≡◌};
 ghost use Rattle.mlu_lanes.specs.LaneRing.{lane_by_lane};
 ghost use Rattle.mlu_lanes.specs.BabyBear.{baby_bear_ring};
 

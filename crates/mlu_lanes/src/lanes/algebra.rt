@@ -1,5 +1,5 @@
 //! Lanes over their elements, and over themselves.
-ghost use Rattle.std.specs.Prelude.{◌≡◌, refl};
+ghost use Rattle.std.specs.Prelude.{refl};
 ghost use Rattle.mlu_ring.proofs.TrivialExtension.{identity_is_ring_map};
 ghost use Rattle.mlu_lanes.specs.LaneRing.{splat, splat_is_ring_map};
 

@@ -1,5 +1,4 @@
 //! The integers modulo 2^64 of the least residues of the prime field.
-ghost use Rattle.std.specs.Prelude.{◌≡◌};
 ghost use Rattle.mlu_lanes.specs.BabyBear.{canonical};
 ghost use Rattle.mlu_lanes.specs.WrappingU64.{wrapped};
 

@@ -1,6 +1,6 @@
 //! The words over themselves: the identity as embedding, one coefficient, and the lanes as packed
 //! form.
-ghost use Rattle.std.specs.Prelude.{◌≡◌, ◌∷◌, [], refl, slice_index_or};
+ghost use Rattle.std.specs.Prelude.{◌∷◌, [], refl, slice_index_or};
 ghost use Rattle.std.proofs.Common.{sym};
 ghost use Rattle.std.proofs.lemmas.List.{map-id};
 ghost use Rattle.mlu_ring.proofs.TrivialExtension.{identity_is_ring_map, one_coefficient, only_transposed};

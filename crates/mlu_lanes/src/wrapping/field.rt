@@ -1,5 +1,4 @@
 //! The packed form of the words.
-ghost use Rattle.std.specs.Prelude.{◌≡◌};
 ghost use Rattle.mlu_lanes.specs.LaneRing.{lane_by_lane};
 ghost use Rattle.mlu_lanes.specs.WrappingU64.{wrapping_ring};
 

@@ -79,7 +79,7 @@ impl<F: Field, EF: ExtensionField<F>> SplitEq<F, EF> {
         poly: PolyView<'_, F>,
         parts: usize,
     ) -> Result<Poly<EF::ExtensionPacking>, AllocError>
-        requires parts { 0 < parts }
+        requires packed_parts { 0 < parts }
         requires variables { length (split_entries EF.ring self.now) * F.Packing.WIDTH ≤ length (entries poly) }
         ensures { IfOk result (λ folded. logical EF.ExtensionPacking.ext_lanes folded
             ≡ front EF.ring (split_entries EF.ring self.now) (map EF.embed (entries poly.entry))) }
@@ -146,7 +146,7 @@ impl<F: Field, EF: ExtensionField<F>> SplitEq<F, EF> {
         poly: PolyView<'_, F>,
         parts: usize,
     ) -> Result<Poly<EF>, AllocError>
-        requires parts { 0 < parts }
+        requires shifted_parts { 0 < parts }
         requires variables { length (split_entries EF.ring self.now) ≤ length (entries poly) }
         ensures { IfOk result (λ folded. folded
             ≡ front EF.ring (shifted EF.ring (split_entries EF.ring self.now)) (map EF.embed (entries poly.entry))) }
