@@ -1,4 +1,5 @@
 -- The lemmas of this crate.
+pub mod Columns
 pub mod Entrywise
 pub mod OneLane
 pub mod PlaceSums

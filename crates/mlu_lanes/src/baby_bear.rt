@@ -13,6 +13,7 @@ mod reduce;
 mod reduce_each;
 mod ring;
 mod rows;
+pub mod transpose;
 
 /// 15 · 2^27 + 1, a prime. A sum of two residues fits 32 bits, and of four products 64 bits.
 pub const MODULUS: u32 = 2013265921;

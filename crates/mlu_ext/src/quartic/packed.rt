@@ -6,8 +6,7 @@ ghost use Rattle.mlu_ext.specs.QuarticPacked.{quartic_elements, quartic_of_eleme
 ghost use Rattle.mlu_ext.specs.QuarticMaps.{quartic_are_lists};
 
 use super::QuarticExtension;
-use crate::coefficients::column;
-use mlu_lanes::{BabyBear, Coefficients, LaneWidth, Lanes};
+use mlu_lanes::{BabyBear, Coefficients, LaneWidth, Lanes, coefficient_columns};
 use mlu_ring::{PackedFieldExtension, PackedValue};
 
 impl<const W: usize> PackedFieldExtension<BabyBear<W>, QuarticExtension<BabyBear<W>>>
@@ -25,12 +24,8 @@ where
 
     #[inline]
     fn from_ext_slice(values: &[QuarticExtension<BabyBear<W>>]) -> Self {
-        QuarticExtension {
-            c0: column(values, 0),
-            c1: column(values, 1),
-            c2: column(values, 2),
-            c3: column(values, 3),
-        }
+        let (c0, c1, c2, c3) = coefficient_columns(values);
+        QuarticExtension { c0, c1, c2, c3 }
     }
 
     #[inline]

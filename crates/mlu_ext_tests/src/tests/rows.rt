@@ -1,7 +1,7 @@
 //! Worked values of each extension: products, scales, and coefficients in lanes.
 use super::{Bear, Quartic, quartic};
 use mlu_ext::ProductAlgebra;
-use mlu_lanes::Lanes;
+use mlu_lanes::{Lanes, coefficient_columns};
 use mlu_ring::{Additive, Algebra, ExtensionField, PackedFieldExtension};
 
 #[test]
@@ -36,6 +36,7 @@ fn packs_coefficient_by_coefficient(rt: HostRuntime) {
         Bear::from_u32(15),
     ];
     assert_eq!(rt; packed.c2, Lanes::from_array(thirds));
+    assert_eq!(rt; coefficient_columns(&elements).2, packed.c2);
     let cube = quartic(0, 0, 0, 1);
     assert_eq!(rt; packed.scale(cube).ext_lane(0), quartic(22, 33, 44, 1));
     assert_eq!(rt; packed.scale(cube).ext_lane(3), elements[3] * cube);

@@ -120,7 +120,7 @@ fn column_times_few_rows<const W: usize, E: Coefficients<BabyBear<W>>>(
 
 /// The least residues of four coefficients. The compiler makes one load of them.
 #[inline(always)]
-fn row<const W: usize, E: Coefficients<BabyBear<W>>>(element: &E) -> Simd<u32, 4>
+pub fn row<const W: usize, E: Coefficients<BabyBear<W>>>(element: &E) -> Simd<u32, 4>
     requires { E.count ≡ 4 }
     ensures value { (j : ℕ) → j < 4 → slice_index result j ≡ residue_at (E.list element.now) j }
     ensures least { (j : ℕ) → j < 4 → slice_index result j < MODULUS }

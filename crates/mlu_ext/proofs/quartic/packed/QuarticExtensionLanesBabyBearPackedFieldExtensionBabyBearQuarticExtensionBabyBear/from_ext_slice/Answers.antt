@@ -6,5 +6,6 @@ use Rattle.mlu_ext.proofs.quartic.packed.QuarticExtensionLanesBabyBearPackedFiel
 
 pub returns : goal.returns
 returns g c =
-    let packed = quartic c.column.result c.column-2.result c.column-3.result c.column-4.result in
-    quartic-of_columns g.row.W (baby_bear_ring g.row.W).zero packed c.args.values.now c.requires c.column.ensures c.column-2.ensures c.column-3.ensures c.column-4.ensures
+    let columns = c.coefficient_columns-c0.result in
+    let are = c.coefficient_columns-c0.ensures in
+    quartic-of_columns g.row.W (baby_bear_ring g.row.W).zero (quartic columns.0 columns.1 columns.2 columns.3) c.args.values.now c.requires are.first are.second are.third are.fourth
