@@ -1,5 +1,5 @@
 -- The sum of four elements of the base, each times an element of the extension, by coefficients.
-use Rattle.std.proofs.Common.{◌≡◌, ℕ, ◌<◌, List, [], ◌∷◌, length, map, get_or, set, sym, ap, refl, ◌∙◌, arith, lit<}
+use Rattle.std.proofs.Common.{◌≡◌, ℕ, ◌<◌, List, [], ◌∷◌, length, map, get_or, sym, ap, refl, ◌∙◌, arith, lit<}
 use Rattle.std.specs.Simd.Lanes.{zip2}
 use Rattle.std.proofs.lemmas.List.{get_or-map}
 use Rattle.std.proofs.lemmas.Simd.{get_or-zip2}
@@ -7,15 +7,6 @@ use Rattle.mlu_ring.specs.Ring.{Ring, RingLaws}
 use Rattle.mlu_ring.specs.Lanes.{IsLists}
 use Rattle.mlu_ring.specs.Tables.{pair}
 use Rattle.mlu_ring.proofs.Pairs.{pair-of_four}
-
--- four coefficients, written one after the other
-pub written : {B : Type 0} (l : List B) (a b c d : B) → length l ≡ 4 → set (set (set (set l 0 a) 1 b) 2 c) 3 d ≡ a ∷ b ∷ c ∷ d ∷ []
-written (p ∷ q ∷ u ∷ v ∷ []) a b c d long = refl
-written [] a b c d long = absurd (omega arith)
-written (p ∷ []) a b c d long = absurd (omega arith)
-written (p ∷ q ∷ []) a b c d long = absurd (omega arith)
-written (p ∷ q ∷ u ∷ []) a b c d long = absurd (omega arith)
-written (p ∷ q ∷ u ∷ v ∷ w ∷ l) a b c d long = absurd (omega arith)
 
 module _ {B E : Type 0} (base : Ring B) (base_laws : RingLaws base) (ext : Ring E) (ext_laws : RingLaws ext) (coefficients : E → List B) (of_coefficients : List B → E) (are : IsLists 4 coefficients of_coefficients)
     (embed : B → E) (sum : (a b : E) → coefficients (ext.sum a b) ≡ zip2 base.sum (coefficients a) (coefficients b))

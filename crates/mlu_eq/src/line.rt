@@ -6,9 +6,7 @@
 ghost use Rattle.std.specs.Prelude.{◌≡◌};
 ghost use Rattle.mlu_eq.specs.Combine.{combined, interpolated};
 
-use mlu_ring::{
-    Additive, Algebra, ExtensionField, Field, PrimeCharacteristicRing, scale_by_packing,
-};
+use mlu_ring::{Additive, Algebra, ExtensionField, Field, PrimeCharacteristicRing, scale_packing};
 
 /// `low + r * (high - low)`.
 #[inline(always)]
@@ -39,13 +37,13 @@ pub fn interpolate_base_at_fixed<F: Additive, EF: Algebra<F>>(low: F, high: F, r
 pub fn interpolate_packing<F: Field, EF: ExtensionField<F>>(
     low: F::Packing,
     high: F::Packing,
-    r: EF::ExtensionPacking,
+    r: EF,
 ) -> EF::ExtensionPacking
-    ensures { result ≡ interpolated EF.ExtensionPacking.ring r
+    ensures { result ≡ interpolated EF.ExtensionPacking.ring (⟦<EF::ExtensionPacking as Algebra<EF>>⟧.embed r)
         (⟦<EF::ExtensionPacking as Algebra<F::Packing>>⟧.embed low)
         (⟦<EF::ExtensionPacking as Algebra<F::Packing>>⟧.embed high) }
 {
-    scale_by_packing::<F, EF>(r, high - low).plus(low)
+    scale_packing::<F, EF>(r, high - low).plus(low)
 }
 
 /// The same at the image of a base element.

@@ -98,7 +98,7 @@ fn fold_group_at<F: Field, EF: ExtensionField<F>>(
     interpolate_packing::<F, EF>(
         F::Packing::load(&low[start..end]),
         F::Packing::load(&high[start..end]),
-        <EF::ExtensionPacking as Algebra<EF>>::from_base(r),
+        r,
     )
 }
 

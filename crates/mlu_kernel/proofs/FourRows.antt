@@ -2,7 +2,7 @@
 use Rattle.std.proofs.Common.{◌≡◌, ℕ, zero, suc, ◌+◌, ◌*◌, ◌/◌, ◌%◌, ◌<◌, ◌≤◌, List, [], ◌∷◌, ◌++◌, map, length, take, drop, set, get_or, replicate, sym, ap, ◌∙◌, arith}
 use Rattle.std.specs.Simd.Lanes.{zip2}
 use Rattle.std.proofs.Math.Nat.{mul-div_cancel_left, mul_assoc}
-use Rattle.std.proofs.lemmas.List.{ext_get_or, get_or-map, get_or-take, get_or-drop, get_or-replicate, length-map, length-replicate, length-take-le, length-drop, append_assoc, take_more}
+use Rattle.std.proofs.lemmas.List.{ext_get_or, get_or-map, get_or-take, get_or-drop, get_or-replicate, length-map, length-take-le, length-drop, append_assoc, take_more}
 use Rattle.std.proofs.lemmas.Simd.{get_or-zip2}
 use Rattle.mlu_ring.specs.Ring.{Ring, RingLaws}
 use Rattle.mlu_ring.specs.Tables.{pair, front}
@@ -15,7 +15,7 @@ use Rattle.mlu_ring.proofs.Joined.{front-entry}
 use Rattle.mlu_ring.proofs.Rows.{row-fits, map-row_at}
 use Rattle.mlu_ring.proofs.Logical.{length-logical, block-logical, get_or-logical, zip_block_more}
 use Rattle.mlu_kernel.specs.Kernels.{plus_rows}
-use Rattle.mlu_ring.proofs.PackedCoefficients.{IsPackedExtension, coefficient-sum, coefficient-scale, coefficient-zero, by_coefficients}
+use Rattle.mlu_ring.proofs.PackedCoefficients.{IsPackedExtension, coefficient-sum, coefficient-scale, coefficient-splat, coefficient-zero, by_coefficients}
 use Rattle.mlu_kernel.proofs.PlusRows.{within, length-front, plus_rows_by_entry, plus_rows-front, plus_rows-append}
 
 -- the dot of the blocks with coefficient k of the weights, for each k
@@ -30,21 +30,14 @@ pub map-four : {A C : Type 0} (f : A → C) (xs : List A) (a b c d : A) (r s t u
 map-four f (w ∷ x ∷ y ∷ z ∷ []) a b c d r s t u h ea eb ec ed er es et eu = cc (ea, eb, ec, ed, er, es, et, eu)
 map-four f xs a b c d r s t u h ea eb ec ed er es et eu = absurd (omega arith)
 
-module _ {B E P Q : Type 0} {base : Ring B} {ext : Ring E} {packing : Ring P} {packed : Ring Q} {width dimension : ℕ} {lanes : P → List B} {of_lanes : List B → P} {coefficients : E → List B} {ext_lanes : Q → List E} {of_ext_lanes : List E → Q} {packed_coefficients : Q → List P} {of_packed_coefficients : List P → Q} {embed : B → E} {embed_packing : P → Q} (laws : IsPackedExtension base ext packing packed width dimension lanes of_lanes coefficients ext_lanes of_ext_lanes packed_coefficients of_packed_coefficients embed embed_packing) (embed_element : E → Q) (in_each_lane : (x : E) → ext_lanes (embed_element x) ≡ replicate width x) where
-  coefficient-splat : (x : E) (c : ℕ) → c < dimension → get_or (packed_coefficients (embed_element x)) c packing.zero ≡ splat_of width of_lanes (get_or (coefficients x) c base.zero)
-  coefficient-splat x c h =
-      let p = get_or (packed_coefficients (embed_element x)) c packing.zero in
-      let e = get_or (coefficients x) c base.zero in
-      let long = laws.lanes_are.length-parts p in
-      sym (laws.lanes_are.whole-parts p)
-      ∙ ap of_lanes (ext_get_or base.zero (lanes p) (replicate width e) (long ∙ sym (length-replicate width e))
-      (λ k b.
-      let below : k < width = rw (← long) b in
-      sym (laws.transposed (embed_element x) k c below h)
-      ∙ ap (λ l. get_or (coefficients (get_or l k ext.zero)) c base.zero) (in_each_lane x)
-      ∙ ap (λ v. get_or (coefficients v) c base.zero) (get_or-replicate width k x ext.zero below)
-      ∙ sym (get_or-replicate width k e base.zero below)))
+-- four coefficients, each grown by its term
+pub grown-four : {P : Type 0} (f : P → P → P) (old : List P) (term : ℕ → P) (a b c d z : P) → length old ≡ 4
+    → a ≡ f (get_or old 0 z) (term 0) → b ≡ f (get_or old 1 z) (term 1) → c ≡ f (get_or old 2 z) (term 2) → d ≡ f (get_or old 3 z) (term 3)
+    → (a ∷ b ∷ c ∷ d ∷ []) ≡ zip2 f old (tabulate 4 term)
+grown-four f (p ∷ q ∷ r ∷ s ∷ []) term a b c d z long is_a is_b is_c is_d = (λ i. is_a i ∷ is_b i ∷ is_c i ∷ is_d i ∷ [])
+grown-four f old term a b c d z long is_a is_b is_c is_d = absurd (omega arith)
 
+module _ {B E P Q : Type 0} {base : Ring B} {ext : Ring E} {packing : Ring P} {packed : Ring Q} {width dimension : ℕ} {lanes : P → List B} {of_lanes : List B → P} {coefficients : E → List B} {ext_lanes : Q → List E} {of_ext_lanes : List E → Q} {packed_coefficients : Q → List P} {of_packed_coefficients : List P → Q} {embed : B → E} {embed_packing : P → Q} (laws : IsPackedExtension base ext packing packed width dimension lanes of_lanes coefficients ext_lanes of_ext_lanes packed_coefficients of_packed_coefficients embed embed_packing) (embed_element : E → Q) (in_each_lane : (x : E) → ext_lanes (embed_element x) ≡ replicate width x) where
   -- the dot of weights and blocks, as packed values
   abbrev dot : List E → List P → Q
   dot ws bs = pair packed (map embed_element ws) (map embed_packing bs)
@@ -64,7 +57,7 @@ module _ {B E P Q : Type 0} {base : Ring B} {ext : Ring E} {packing : Ring P} {p
       ap (λ p. get_or (packed_coefficients p) c packing.zero) (pair-cons packed laws.packed_laws (embed_element w) (embed_packing b) (map embed_element ws) (map embed_packing bs))
       ∙ coefficient-sum laws first (dot ws bs) c h
       ∙ ap (λ t. packing.sum t (get_or (packed_coefficients (dot ws bs)) c packing.zero))
-      (coefficient-scale laws (embed_element w) b c h ∙ ap (λ t. packing.product t b) (coefficient-splat w c h) ∙ laws.packing_laws.product_comm x b)
+      (coefficient-scale laws (embed_element w) b c h ∙ ap (λ t. packing.product t b) (coefficient-splat laws embed_element in_each_lane w c h) ∙ laws.packing_laws.product_comm x b)
       ∙ ap (packing.sum (packing.product b x)) (coefficient-dot ws bs c h (omega arith))
       ∙ sym (pair-cons packing laws.packing_laws b x bs xs)
 

@@ -3,17 +3,22 @@
 //! Each coefficient of an output grows by the weighted coefficients of four rows at once, which
 //! [`Field::mixed_dot4`] sums before it reduces. Rows are read from front to back, and the sums
 //! stand in the output, so no memory is taken.
-ghost use Rattle.std.specs.Prelude.{◌≡◌, ◌+◌, ◌*◌, ◌%◌, ◌≤◌, ◌<◌, IsTrue, length, map};
+ghost use Rattle.std.specs.Prelude.{◌≡◌, ◌+◌, ◌*◌, ◌%◌, ◌≤◌, ◌<◌, IsTrue, length, map, slice_index_or};
 ghost use Rattle.std.specs.Mem.{type_size};
-ghost use Rattle.mlu_ring.specs.Lanes.{logical};
+ghost use Rattle.mlu_ring.specs.Lanes.{logical, splat_of};
 ghost use Rattle.mlu_ring.specs.Matrices.{row_at};
+ghost use Rattle.mlu_ring.specs.Tables.{pair};
 ghost use Rattle.mlu_kernel.specs.Kernels.{plus_rows};
 
 use crate::small::{SMALL_BYTES, is_small};
 use mlu_ring::{
-    Additive, Algebra, ExtensionField, Field, Lanewise, PackedFieldExtension, PackedValue, row_of,
-    row_of_width,
+    Additive, Algebra, ExtensionField, Field, Lanewise, PackedFieldExtension, PackedValue,
+    packed_of_four, row_of, row_of_width,
 };
+
+/// The coefficients that are written out: the compiler does not unroll the loop over them, and so would
+/// not prepare those of the weights once for all places.
+const FOUR: usize = 4;
 
 /// Whether rows can be taken by four: lanes come in fours, and elements take few bytes. A constant,
 /// once the types are known.
@@ -128,16 +133,43 @@ fn plus_four_products<F: Field, EF: ExtensionField<F>>(
         ≡ plus_rows EF.ring (EF.ExtensionPacking.ext_lanes packed)
         weights.now (map EF.embed (logical F.Packing.lanes blocks.now)) }
 {
+    if EF::DIMENSION == FOUR {
+        return packed_of_four::<F, EF>(
+            grown_coefficient::<F, EF>(packed, blocks, weights, 0),
+            grown_coefficient::<F, EF>(packed, blocks, weights, 1),
+            grown_coefficient::<F, EF>(packed, blocks, weights, 2),
+            grown_coefficient::<F, EF>(packed, blocks, weights, 3),
+        );
+    }
     let mut sum = packed;
     for k in 0..EF::DIMENSION {
-        let coefficients = [
-            weights[0].coefficient(k),
-            weights[1].coefficient(k),
-            weights[2].coefficient(k),
-            weights[3].coefficient(k),
-        ];
-        let products = F::mixed_dot4(blocks, &coefficients);
-        sum.set_packed_coefficient(k, sum.packed_coefficient(k) + products);
+        let grown = grown_coefficient::<F, EF>(sum, blocks, weights, k);
+        sum.set_packed_coefficient(k, grown);
     }
     sum
+}
+
+/// Coefficient `k` of `packed`, plus that of the sum of the blocks, each times its weight.
+#[inline(always)]
+fn grown_coefficient<F: Field, EF: ExtensionField<F>>(
+    packed: EF::ExtensionPacking,
+    blocks: &[F::Packing],
+    weights: &[EF],
+    k: usize,
+) -> F::Packing
+    requires coefficient { k < EF.DIMENSION }
+    requires blocks { length blocks.now ≡ 4 }
+    requires weights { length weights.now ≡ 4 }
+    requires small { type_size F.row < SMALL_BYTES }
+    ensures { result ≡ F.Packing.ring.sum (slice_index_or (EF.ExtensionPacking.packed_coefficients packed) k F.Packing.ring.zero)
+        (pair F.Packing.ring blocks.now (map (splat_of F.Packing.WIDTH F.Packing.of_lanes)
+        (map (λ w. slice_index_or (EF.coefficients w) k F.ring.zero) weights.now))) }
+{
+    let coefficients = [
+        weights[0].coefficient(k),
+        weights[1].coefficient(k),
+        weights[2].coefficient(k),
+        weights[3].coefficient(k),
+    ];
+    packed.packed_coefficient(k) + F::mixed_dot4(blocks, &coefficients)
 }

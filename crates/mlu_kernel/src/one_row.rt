@@ -8,7 +8,7 @@ ghost use Rattle.mlu_kernel.specs.Kernels.{plus_rows};
 
 use mlu_ring::{
     Additive, Algebra, ExtensionField, Field, Lanewise, PackedFieldExtension, PackedValue,
-    row_of_width, scale_by_packing,
+    row_of_width, scale_by_packing, scale_packing,
 };
 
 /// The packed weights times a row: a value whose lanes add up to the dot. Asks for as many entries
@@ -54,9 +54,8 @@ pub fn add_row_times<F: Field, EF: ExtensionField<F>>(
         ≡ plus_rows EF.ring (logical EF.ExtensionPacking.ext_lanes out.old)
         (weight ∷ []) (map EF.embed row.now) }
 {
-    let weights = EF::ExtensionPacking::from_base(weight);
     for z in 0..out.len() {
         let block = F::Packing::load(row_of_width(row, F::Packing::WIDTH, z));
-        out[z] = out[z] + scale_by_packing::<F, EF>(weights, block);
+        out[z] = out[z] + scale_packing::<F, EF>(weight, block);
     }
 }

@@ -11,7 +11,8 @@ use mlu_kernel::{
 };
 use mlu_lanes::{BabyBear, LaneWidth, Lanes};
 use mlu_ring::{
-    Additive, Algebra, ExtensionField, Field, Lanewise, PackedValue, Sample, scale_by_packing,
+    Additive, Algebra, ExtensionField, Field, Lanewise, PackedFieldExtension, PackedValue, Sample,
+    packed_of_four, scale_by_base, scale_by_packing, scale_packing,
 };
 use mlu_test_support::draws::drawn;
 use mlu_test_support::lanes::packed;
@@ -219,7 +220,8 @@ fn dot_of_two_rows<F: Field, EF: ExtensionField<F>>(alloc: Global) -> Result<boo
     Ok(dots == elements(alloc, &[30, 70])? && dots_are::<F, EF>(&eq1, &chunk, &eq0, element(730)))
 }
 
-/// Whether the lanes of the dot of one row of four lanes add up to 70, and twice each weight to 20.
+/// Whether the lanes of the dot of one row of four lanes add up to 70, and twice each weight to 20, by a
+/// packing and by an element; and those of 10 times the row to 260.
 fn lanes_of_one_row<F: Field, EF: ExtensionField<F>>(alloc: Global) -> Result<bool, AllocError> {
     if F::Packing::WIDTH != 4 {
         return Ok(false);
@@ -227,10 +229,28 @@ fn lanes_of_one_row<F: Field, EF: ExtensionField<F>>(alloc: Global) -> Result<bo
     let eq1 = packed::<F, EF>(alloc, &elements(alloc, &[1, 2, 3, 4])?, 1)?;
     let row = elements(alloc, &[5, 6, 7, 8])?;
     let doubled = scale_by_packing::<F, EF>(eq1[0], F::Packing::splat(F::TWO));
+    let tenfold = scale_packing::<F, EF>(element(10), F::Packing::load(&row));
     Ok(
         lane_sum::<F, EF>(row_dot_in_lanes::<F, EF>(&eq1, &row)) == element(70)
-            && lane_sum::<F, EF>(doubled) == element(20),
+            && lane_sum::<F, EF>(doubled) == element(20)
+            && scale_by_base::<F, EF>(eq1[0], F::TWO) == doubled
+            && lane_sum::<F, EF>(tenfold) == element(260)
+            && is_of_its_coefficients::<F, EF>(tenfold),
     )
+}
+
+/// Whether a packed value is made of its coefficients, where it has four.
+fn is_of_its_coefficients<F: Field, EF: ExtensionField<F>>(packed: EF::ExtensionPacking) -> bool {
+    if EF::DIMENSION != 4 {
+        return true;
+    }
+    let made = packed_of_four::<F, EF>(
+        packed.packed_coefficient(0),
+        packed.packed_coefficient(1),
+        packed.packed_coefficient(2),
+        packed.packed_coefficient(3),
+    );
+    made == packed
 }
 
 /// Whether four rows of four lanes, each times two, are added up.

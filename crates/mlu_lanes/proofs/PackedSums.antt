@@ -1,5 +1,5 @@
 -- Products of packed residues and sums of four, from lanes that are reduced once.
-use Rattle.std.proofs.Common.{◌≡◌, ℕ, ◌+◌, ◌*◌, ◌%◌, ◌<◌, List, [], ◌∷◌, length, replicate, get_or, ap, sym, ◌∙◌, arith}
+use Rattle.std.proofs.Common.{◌≡◌, ℕ, ◌+◌, ◌*◌, ◌%◌, ◌^◌, ◌<◌, List, [], ◌∷◌, map, length, replicate, get_or, ap, sym, ◌∙◌, arith}
 use Rattle.std.proofs.lemmas.List.{ext_get_or, get_or-replicate}
 use Rattle.std.proofs.lemmas.Simd.{length-replicate}
 use Rattle.mlu_ring.proofs.Resized.{resized-whole}
@@ -10,7 +10,9 @@ use Rattle.mlu_lanes.specs.LaneRing.{lane_ring, packed_of, same_values}
 use Rattle.mlu_lanes.specs.Packed.{residue}
 use Rattle.mlu_lanes.specs.declared.baby_bear.BabyBear.{BabyBear}
 use Rattle.mlu_lanes.specs.declared.baby_bear.TheConstants.{MODULUS}
+use Rattle.mlu_lanes.specs.declared.baby_bear.reduce_each.TheConstants.{FOLD}
 use Rattle.mlu_lanes.specs.declared.lanes.Lanes.{Lanes}
+use Rattle.mlu_lanes.proofs.Prepared.{prepared_product, prepared_once}
 use Rattle.mlu_lanes.proofs.OneLane.{lane_is_ring_map, lane_of_four_products}
 use Rattle.mlu_lanes.proofs.ResidueSums.{reduced_once}
 
@@ -45,7 +47,33 @@ module _ {W : ℕ} where
       ∙ sym (lane_of_four_products W (baby_bear_ring W) j below (baby_bear_laws W) a b c d p q r s))
 
   -- the value in every lane
-  pub residue_of_splat : (c : BabyBear W) (j : ℕ) → j < W → residue (splat_of W (packed_of W (reduced 0)) c) j ≡ canonical c
-  residue_of_splat c j below =
+  lane_of_splat : (c : BabyBear W) (j : ℕ) → j < W → get_or (splat_of W (packed_of W (reduced 0)) c).values j (reduced 0) ≡ c
+  lane_of_splat c j below =
       let lanes = resized-whole (reduced 0) W (replicate W c) (length-replicate W c) in
-      ap (λ values. canonical (get_or values j (reduced 0))) lanes ∙ ap canonical (get_or-replicate W j c (reduced 0) below)
+      ap (λ values. get_or values j (reduced 0)) lanes ∙ get_or-replicate W j c (reduced 0) below
+
+  -- the products with an element that was multiplied by 2^32
+  pub product_of_prepared : (a product : Lanes (BabyBear W) W) (c : BabyBear W) (f : ℕ) → f ≡ canonical c * FOLD % MODULUS
+      → ((j : ℕ) → j < W → residue product j * 2 ^ 32 % MODULUS ≡ residue a j * f % MODULUS)
+      → product ≡ (lane_ring W (baby_bear_ring W)).product a (splat_of W (packed_of W (reduced 0)) c)
+  product_of_prepared a product c f is each =
+      let splat = splat_of W (packed_of W (reduced 0)) c in
+      same_lanes product _ (λ j below.
+      let by_lane = lane_is_ring_map W (baby_bear_ring W) j below in
+      prepared_product (get_or a.values j (reduced 0)) c _ f is (each j below)
+      ∙ ap ((baby_bear_ring W).product (get_or a.values j (reduced 0))) (sym (lane_of_splat c j below))
+      ∙ sym (by_lane.product a splat))
+
+  -- the sum of four products with elements that were multiplied by 2^32
+  pub sum_of_prepared : (a b c d sum : Lanes (BabyBear W) W) (p q r s : BabyBear W) (fp fq fr fs : ℕ)
+      → fp ≡ canonical p * FOLD % MODULUS → fq ≡ canonical q * FOLD % MODULUS → fr ≡ canonical r * FOLD % MODULUS → fs ≡ canonical s * FOLD % MODULUS
+      → ((j : ℕ) → j < W → residue sum j * 2 ^ 32 % MODULUS ≡ (residue a j * fp + residue b j * fq + (residue c j * fr + residue d j * fs)) % MODULUS)
+      → sum ≡ pair (lane_ring W (baby_bear_ring W)) (a ∷ b ∷ c ∷ d ∷ []) (map (splat_of W (packed_of W (reduced 0))) (p ∷ q ∷ r ∷ s ∷ []))
+  sum_of_prepared a b c d sum p q r s fp fq fr fs ep eq er es each =
+      let ring = baby_bear_ring W in
+      let splat = splat_of W (packed_of W (reduced 0)) in
+      let at = λ (l : Lanes (BabyBear W) W) (j : ℕ). get_or l.values j (reduced 0) in
+      same_lanes sum _ (λ j below.
+      prepared_once (at a j) (at b j) (at c j) (at d j) p q r s (at sum j) fp fq fr fs ep eq er es (each j below)
+      ∙ sym (λ i. pair ring (at a j ∷ at b j ∷ at c j ∷ at d j ∷ []) (lane_of_splat p j below i ∷ lane_of_splat q j below i ∷ lane_of_splat r j below i ∷ lane_of_splat s j below i ∷ []))
+      ∙ sym (lane_of_four_products W ring j below (baby_bear_laws W) a b c d (splat p) (splat q) (splat r) (splat s)))

@@ -29,6 +29,13 @@ module _ {W : ℕ} where
   cancel_radix : (x y : BabyBear W) → (baby_bear_ring W).product x radix ≡ (baby_bear_ring W).product y radix → x ≡ y
   cancel_radix x y e = sym (unscaled x) ∙ ap (λ t. (baby_bear_ring W).product t inverse) e ∙ unscaled y
 
+  -- a product, from its product with 2^32, where the second factor was multiplied by that
+  pub prepared_product : (a p x : BabyBear W) (fp : ℕ) → fp ≡ canonical p * FOLD % MODULUS → canonical x * 2 ^ 32 % MODULUS ≡ canonical a * fp % MODULUS → x ≡ (baby_bear_ring W).product a p
+  prepared_product a p x fp ep is =
+      let ring = baby_bear_ring W in
+      let scaled : canonical (ring.product x radix) ≡ canonical x * 2 ^ 32 % MODULUS = mul-mod_second (canonical x) (2 ^ 32) MODULUS in
+      cancel_radix x _ (same_canonical _ _ (scaled ∙ is ∙ ap (λ f. canonical a * f % MODULUS) ep) ∙ sym ((baby_bear_laws W).product_assoc a p radix))
+
   -- the sum of four products, from its product with 2^32, where the factors were multiplied by that
   pub prepared_once : (a b c d p q r s x : BabyBear W) (fp fq fr fs : ℕ)
       → fp ≡ canonical p * FOLD % MODULUS → fq ≡ canonical q * FOLD % MODULUS → fr ≡ canonical r * FOLD % MODULUS → fs ≡ canonical s * FOLD % MODULUS

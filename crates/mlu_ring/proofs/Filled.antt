@@ -1,5 +1,5 @@
 -- A list that a loop fills place by place.
-use Rattle.std.proofs.Common.{◌≡◌, ◌<◌, ◌≤◌, ◌≢◌, ◌+◌, ℕ, List, length, map, get_or, set, sym, ap, ◌∙◌, arith, get_or-set_other, get_or-set_same, below_more, subst, lit<}
+use Rattle.std.proofs.Common.{◌≡◌, ◌<◌, ◌≤◌, ◌≢◌, ◌+◌, ℕ, zero, suc, List, [], ◌∷◌, length, map, get_or, set, refl, sym, ap, ◌∙◌, arith, get_or-set_other, get_or-set_same, below_more, subst, lit<}
 use Rattle.std.proofs.lemmas.List.{ext_get_or, get_or-map, get_or_default}
 
 module _ {A : Type 0} (d : A) where
@@ -41,3 +41,23 @@ module _ {A : Type 0} (d : A) where
 -- the image of what is read of a list
 pub read_image : {E A : Type 0} (f : E → A) (xs : List E) (i : ℕ) (x : E) (d : A) → i < length xs → x ≡ get_or xs i x → f x ≡ get_or (map f xs) i d
 read_image f xs i x d h is = ap f is ∙ sym (get_or-map f xs i x d h)
+
+-- four places, written one after the other
+pub written : {B : Type 0} (l : List B) (a b c d : B) → length l ≡ 4 → set (set (set (set l 0 a) 1 b) 2 c) 3 d ≡ a ∷ b ∷ c ∷ d ∷ []
+written (p ∷ q ∷ u ∷ v ∷ []) a b c d long = refl
+written [] a b c d long = absurd (omega arith)
+written (p ∷ []) a b c d long = absurd (omega arith)
+written (p ∷ q ∷ []) a b c d long = absurd (omega arith)
+written (p ∷ q ∷ u ∷ []) a b c d long = absurd (omega arith)
+written (p ∷ q ∷ u ∷ v ∷ w ∷ l) a b c d long = absurd (omega arith)
+
+-- what is read of a list of four
+pub four-at : {B : Type 0} (l : List B) (a b c d z : B) (g : ℕ → B) → l ≡ a ∷ b ∷ c ∷ d ∷ [] → a ≡ g 0 → b ≡ g 1 → c ≡ g 2 → d ≡ g 3 → (j : ℕ) → j < 4 → get_or l j z ≡ g j
+four-at l a b c d z g is at_0 at_1 at_2 at_3 j h = ap (λ xs. get_or xs j z) is ∙ each j h
+  where
+    each : (j : ℕ) → j < 4 → get_or (a ∷ b ∷ c ∷ d ∷ []) j z ≡ g j
+    each zero h = at_0
+    each (suc zero) h = at_1
+    each (suc (suc zero)) h = at_2
+    each (suc (suc (suc zero))) h = at_3
+    each (suc (suc (suc (suc j)))) h = absurd (omega arith)

@@ -1,10 +1,10 @@
 -- The packed coefficients of sums, and of products with packed values of the base.
-use Rattle.std.proofs.Common.{◌≡◌, ℕ, ◌<◌, List, map, length, get_or, sym, ap, ◌∙◌}
+use Rattle.std.proofs.Common.{◌≡◌, ℕ, ◌<◌, List, map, length, get_or, replicate, sym, ap, ◌∙◌}
 use Rattle.std.specs.Simd.Lanes.{zip2}
-use Rattle.std.proofs.lemmas.List.{ext_get_or, get_or-map}
+use Rattle.std.proofs.lemmas.List.{ext_get_or, get_or-map, get_or-replicate, length-replicate}
 use Rattle.std.proofs.lemmas.Simd.{get_or-zip2}
 use Rattle.mlu_ring.specs.Ring.{Ring, RingLaws}
-use Rattle.mlu_ring.specs.Lanes.{IsLists, IsLaneByLane}
+use Rattle.mlu_ring.specs.Lanes.{IsLists, IsLaneByLane, splat_of}
 use Rattle.mlu_ring.proofs.Rings.{sum_zero, sum_cancel}
 
 -- the laws of a packed extension Q of E: its lanes are elements of E, and its coefficients packed values P of the base B
@@ -98,6 +98,21 @@ module _ {B E P Q : Type 0} {base : Ring B} {ext : Ring E} {packing : Ring P} {p
       ∙ ap (λ t. base.product t y) (laws.transposed p k c b h)
       ∙ sym (ap (λ l. get_or l k base.zero) (laws.lane_by_lane.product (at p c) f)
       ∙ get_or-zip2 base.product (lanes (at p c)) (lanes f) k base.zero base.zero base.zero (rw (laws.lanes_are.length-parts (at p c)) b) in_f))
+
+  -- an element stands for each of its coefficients in every lane
+  pub coefficient-splat : (embed_element : E → Q) → ((x : E) → ext_lanes (embed_element x) ≡ replicate width x) → (x : E) (c : ℕ) → c < dimension → get_or (packed_coefficients (embed_element x)) c packing.zero ≡ splat_of width of_lanes (get_or (coefficients x) c base.zero)
+  coefficient-splat embed_element in_each_lane x c h =
+      let p = get_or (packed_coefficients (embed_element x)) c packing.zero in
+      let e = get_or (coefficients x) c base.zero in
+      let long = laws.lanes_are.length-parts p in
+      sym (laws.lanes_are.whole-parts p)
+      ∙ ap of_lanes (ext_get_or base.zero (lanes p) (replicate width e) (long ∙ sym (length-replicate width e))
+      (λ k b.
+      let below : k < width = rw (← long) b in
+      sym (laws.transposed (embed_element x) k c below h)
+      ∙ ap (λ l. get_or (coefficients (get_or l k ext.zero)) c base.zero) (in_each_lane x)
+      ∙ ap (λ v. get_or (coefficients v) c base.zero) (get_or-replicate width k x ext.zero below)
+      ∙ sym (get_or-replicate width k e base.zero below)))
 
   pub coefficient-zero : (c : ℕ) → c < dimension → get_or (packed_coefficients packed.zero) c packing.zero ≡ packing.zero
   coefficient-zero c h =

@@ -1,8 +1,8 @@
 //! Extensions of a field by their coefficients, and their packed forms.
-ghost use Rattle.std.specs.Prelude.{◌≡◌, ◌<◌, ℕ, List, length, map, replicate, slice_index_or, slice_set};
+ghost use Rattle.std.specs.Prelude.{◌≡◌, ◌<◌, ℕ, List, [], ◌∷◌, length, map, replicate, slice_index_or, slice_set};
 ghost use Rattle.std.specs.Simd.Lanes.{zip2};
 ghost use Rattle.mlu_ring.specs.Calls.{AreAllowed, CalledInTurn};
-ghost use Rattle.mlu_ring.specs.Lanes.{IsLists, IsLaneByLane, logical};
+ghost use Rattle.mlu_ring.specs.Lanes.{IsLists, IsLaneByLane, logical, splat_of};
 
 use crate::additive::Additive;
 use crate::algebra::Algebra;
@@ -10,6 +10,10 @@ use crate::ext_lanes::ExtLanes;
 use crate::field::Field;
 use crate::packed::{Lanewise, PackedValue};
 use crate::ring::PrimeCharacteristicRing;
+
+/// The coefficients that are written out: the compiler does not unroll loops over them, and so would not
+/// prepare those of an element once.
+const FOUR: usize = 4;
 
 /// A ring whose elements are lists of `DIMENSION` coefficients in `F`, and each coefficient is
 /// linear over `F`.
@@ -152,6 +156,77 @@ pub fn scale_by_packing<F: Field, EF: ExtensionField<F>>(
     let mut scaled = packed;
     for k in 0..EF::DIMENSION {
         let product = F::lanes_mul(packed.packed_coefficient(k), factor);
+        scaled.set_packed_coefficient(k, product);
+    }
+    scaled
+}
+
+/// The packed value with these coefficients. Asks for four of them.
+#[inline(always)]
+pub fn packed_of_four<F: Field, EF: ExtensionField<F>>(
+    constant: F::Packing,
+    linear: F::Packing,
+    quadratic: F::Packing,
+    cubic: F::Packing,
+) -> EF::ExtensionPacking
+    requires { EF.DIMENSION ≡ 4 }
+    ensures { EF.ExtensionPacking.packed_coefficients result ≡ constant ∷ linear ∷ quadratic ∷ cubic ∷ [] }
+{
+    let mut packed = EF::ExtensionPacking::ZERO;
+    packed.set_packed_coefficient(0, constant);
+    packed.set_packed_coefficient(1, linear);
+    packed.set_packed_coefficient(2, quadratic);
+    packed.set_packed_coefficient(3, cubic);
+    packed
+}
+
+/// The product with a base element: one product in lanes for each coefficient. In a loop by one
+/// element the compiler prepares it once.
+#[inline]
+pub fn scale_by_base<F: Field, EF: ExtensionField<F>>(
+    packed: EF::ExtensionPacking,
+    factor: F,
+) -> EF::ExtensionPacking
+    ensures { result ≡ EF.ExtensionPacking.ring.product packed
+        (⟦<EF::ExtensionPacking as Algebra<F::Packing>>⟧.embed (splat_of F.Packing.WIDTH F.Packing.of_lanes factor)) }
+{
+    if EF::DIMENSION == FOUR {
+        return packed_of_four::<F, EF>(
+            F::lanes_scale(packed.packed_coefficient(0), factor),
+            F::lanes_scale(packed.packed_coefficient(1), factor),
+            F::lanes_scale(packed.packed_coefficient(2), factor),
+            F::lanes_scale(packed.packed_coefficient(3), factor),
+        );
+    }
+    let mut scaled = packed;
+    for k in 0..EF::DIMENSION {
+        let product = F::lanes_scale(packed.packed_coefficient(k), factor);
+        scaled.set_packed_coefficient(k, product);
+    }
+    scaled
+}
+
+/// The product of an element and a packing of the base: one product in lanes for each coefficient.
+/// In a loop by one element of four coefficients the compiler prepares it once.
+#[inline]
+pub fn scale_packing<F: Field, EF: ExtensionField<F>>(
+    element: EF,
+    factor: F::Packing,
+) -> EF::ExtensionPacking
+    ensures { result ≡ EF.ExtensionPacking.ring.product (⟦<EF::ExtensionPacking as Algebra<EF>>⟧.embed element)
+        (⟦<EF::ExtensionPacking as Algebra<F::Packing>>⟧.embed factor) }
+{
+    if EF::DIMENSION == FOUR {
+        return packed_of_four::<F, EF>(
+            F::lanes_scale(factor, element.coefficient(0)),
+            F::lanes_scale(factor, element.coefficient(1)),
+            F::lanes_scale(factor, element.coefficient(2)),
+            F::lanes_scale(factor, element.coefficient(3)),
+        );
+    }
+    let mut scaled = EF::ExtensionPacking::ZERO;
+    for k in 0..EF::DIMENSION {
+        let product = F::lanes_scale(factor, element.coefficient(k));
         scaled.set_packed_coefficient(k, product);
     }
     scaled

@@ -31,7 +31,10 @@ pub use affine::AffineInEach;
 pub use algebra::{Algebra, SelfAlgebra};
 pub use conversion::{MapFrom, RingMapFrom};
 pub use ext_lanes::ExtLanes;
-pub use extension::{ExtensionField, PackedFieldExtension, scale_by_packing};
+pub use extension::{
+    ExtensionField, PackedFieldExtension, packed_of_four, scale_by_base, scale_by_packing,
+    scale_packing,
+};
 pub use field::{Field, dot4, mixed_dot4};
 pub use logarithm::{log2_ceil_usize, log2_strict_usize};
 pub use matrix::{RowMajorMatrix, RowMajorMatrixView};

@@ -3,7 +3,8 @@ ghost use Rattle.mlu_lanes.specs.LaneRing.{lane_by_lane};
 ghost use Rattle.mlu_lanes.specs.BabyBear.{baby_bear_ring};
 
 use super::BabyBear;
-use super::packed::{product_reduced, products, scaled, sum_reduced};
+use super::montgomery::{prepared, prepared_word};
+use super::packed::{prepared_reduced, product_reduced, products, scaled, sum_reduced};
 use crate::lanes::{LaneWidth, Lanes};
 use crate::words::wide_sums;
 use mlu_ring::{Field, Lanewise};
@@ -34,6 +35,12 @@ where
         product_reduced(products(&a, &b))
     }
 
+    // The compiler prepares an element that stays the same in a loop once.
+    #[inline(always)]
+    fn lanes_scale(p: Lanes<Self, W>, c: Self) -> Lanes<Self, W> {
+        prepared_reduced(scaled(&p, prepared_word(c.value)))
+    }
+
     #[inline(always)]
     fn dot4(l: &[Lanes<Self, W>], r: &[Lanes<Self, W>]) -> Lanes<Self, W> {
         let low = wide_sums(products(&l[0], &r[0]), products(&l[1], &r[1]));
@@ -41,10 +48,12 @@ where
         sum_reduced(wide_sums(low, high))
     }
 
+    // As in `lanes_scale`.
     #[inline(always)]
     fn mixed_dot4(p: &[Lanes<Self, W>], c: &[Self]) -> Lanes<Self, W> {
-        let low = wide_sums(scaled(&p[0], c[0]), scaled(&p[1], c[1]));
-        let high = wide_sums(scaled(&p[2], c[2]), scaled(&p[3], c[3]));
-        sum_reduced(wide_sums(low, high))
+        let factors = prepared(&(c[0], c[1], c[2], c[3]));
+        let low = wide_sums(scaled(&p[0], factors[0]), scaled(&p[1], factors[1]));
+        let high = wide_sums(scaled(&p[2], factors[2]), scaled(&p[3], factors[3]));
+        prepared_reduced(wide_sums(low, high))
     }
 }

@@ -40,12 +40,42 @@ pub fn prepared<const W: usize>(
 
 /// The residue of the product with `2^32`.
 #[inline]
-fn prepared_word(residue: u32) -> u32
+pub fn prepared_word(residue: u32) -> u32
     requires { residue < MODULUS }
     ensures value { result ≡ residue * FOLD % MODULUS }
     ensures least { result < MODULUS }
 {
     reduce_product(u64::from(residue) * FOLD)
+}
+
+/// The residue whose product with `2^32` has the residue of `word`. Asks that `word` is below the
+/// square of the modulus, as a product of two residues is.
+#[inline]
+pub fn reduce_prepared_word(word: u64) -> u32
+    requires { word < MODULUS * MODULUS }
+    ensures least { result < MODULUS }
+    ensures value { result * 2 ^ 32 % MODULUS ≡ word % MODULUS }
+{
+    residue_difference((word >> 32) as u32, carried_word(word % 4294967296))
+}
+
+/// The upper half of the multiple of the modulus that has this lower half.
+#[inline]
+fn carried_word(low: u64) -> u32
+    requires { low < 2 ^ 32 }
+    ensures { result ≡ low * INVERSE % 2 ^ 32 * MODULUS / 2 ^ 32 }
+{
+    ((low * INVERSE % 4294967296 * u64::from(MODULUS)) >> 32) as u32
+}
+
+/// The difference of residues, as a residue.
+#[inline]
+fn residue_difference(a: u32, b: u32) -> u32
+    requires { (a < MODULUS) × (b < MODULUS) }
+    ensures { result ≡ (a + MODULUS - b) % MODULUS }
+{
+    let wrapped = a.wrapping_sub(b);
+    wrapped.min(wrapped.wrapping_add(MODULUS))
 }
 
 /// The residues whose product with `2^32` has the residue of the lane. Asks for lanes that are at

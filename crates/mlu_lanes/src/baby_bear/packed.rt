@@ -1,8 +1,8 @@
 //! Packed residues as vectors of words: products that are added up before each lane is reduced.
 ghost use Rattle.std.specs.Prelude.{◌≡◌, ℕ, ◌*◌, ◌%◌, ◌^◌, ◌<◌, slice_index};
-ghost use Rattle.mlu_lanes.specs.BabyBear.{canonical};
 ghost use Rattle.mlu_lanes.specs.Packed.{residue};
 
+use super::montgomery::reduce_prepared;
 use super::reduce_each::{reduce_each_product, reduce_each_word};
 use super::{BabyBear, MODULUS};
 use crate::lanes::Lanes;
@@ -21,13 +21,14 @@ pub fn products<const W: usize>(
     residue_products(words_of(a), words_of(b))
 }
 
-/// The products with one element, unreduced: four of them add up to a word.
+/// The products with one residue, unreduced: four of them add up to a word.
 #[inline]
-pub fn scaled<const W: usize>(p: &Lanes<BabyBear<W>, W>, c: BabyBear<W>) -> Simd<u64, W>
-    ensures value { (j : ℕ) → j < W → slice_index result j ≡ residue p.now j * canonical c.entry }
-    ensures small { (j : ℕ) → j < W → slice_index result j < 2 ^ 62 }
+pub fn scaled<const W: usize>(p: &Lanes<BabyBear<W>, W>, factor: u32) -> Simd<u64, W>
+    requires { factor < MODULUS }
+    ensures value { (j : ℕ) → j < W → slice_index result j ≡ residue p.now j * factor }
+    ensures least { (j : ℕ) → j < W → slice_index result j < MODULUS * MODULUS }
 {
-    residue_products(words_of(p), all(c.value))
+    residue_products(words_of(p), all(factor))
 }
 
 /// The packed value of words below 2^62, as products are.
@@ -46,6 +47,16 @@ pub fn sum_reduced<const W: usize>(words: Simd<u64, W>) -> Lanes<BabyBear<W>, W>
     ensures { (j : ℕ) → j < W → residue result j ≡ slice_index words.entry j % MODULUS }
 {
     lanes_of(reduce_each_word(words))
+}
+
+/// The packed value whose product with `2^32` has the residues of the words. Asks for words that are
+/// at most the sum of four products of residues.
+#[inline]
+pub fn prepared_reduced<const W: usize>(words: Simd<u64, W>) -> Lanes<BabyBear<W>, W>
+    requires { (j : ℕ) → j < W → slice_index words j < 4 * MODULUS * MODULUS }
+    ensures { (j : ℕ) → j < W → residue result j * 2 ^ 32 % MODULUS ≡ slice_index words.entry j % MODULUS }
+{
+    lanes_of(reduce_prepared(words))
 }
 
 /// The products of residues lane by lane, unreduced: four of them add up to a word.

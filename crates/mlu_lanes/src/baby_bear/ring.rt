@@ -3,7 +3,7 @@ ghost use Rattle.std.specs.Prelude.{◌≡◌, refl};
 ghost use Rattle.mlu_lanes.specs.BabyBear.{baby_bear_ring, baby_bear_laws, canonical_are_residues};
 ghost use Rattle.mlu_lanes.specs.Residues.{eq_residues};
 
-use super::montgomery::prepared;
+use super::montgomery::{prepared, prepared_word, reduce_prepared_word};
 use super::reduce::{reduce_once, reduce_product, reduce_word};
 use super::rows::{
     elements_of, prepared_sums_at, put, residue_sums_at, sum_of_prepared_rows, sum_of_rows, sums_at,
@@ -171,6 +171,15 @@ impl<const W: usize> PrimeCharacteristicRing for BabyBear<W> {
             Simd::from_array([first[3], second[3], third[3], fourth[3]]),
         );
         elements_of(sum_of_prepared_rows(l, &rows))
+    }
+
+    // The compiler prepares a factor that stays the same in a loop once.
+    #[inline(always)]
+    fn times_fixed(self, factor: Self) -> Self {
+        let prepared = prepared_word(factor.value);
+        BabyBear {
+            value: reduce_prepared_word(u64::from(self.value) * u64::from(prepared)),
+        }
     }
 
     // Four places at a time.

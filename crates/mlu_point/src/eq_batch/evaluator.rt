@@ -3,8 +3,8 @@ ghost use Rattle.std.specs.Prelude.{◌≡◌, replicate};
 
 use crate::evaluator::{EmbeddedCoordinates, EqualityEvaluator};
 use mlu_ring::{
-    Additive, Algebra, ExtensionField, Field, PackedFieldExtension, PackedValue,
-    PrimeCharacteristicRing, scale_by_packing,
+    Additive, Algebra, ExtensionField, Field, PackedFieldExtension, PrimeCharacteristicRing,
+    scale_by_base,
 };
 use std::marker::PhantomData;
 
@@ -54,8 +54,7 @@ impl<F: Field, EF: ExtensionField<F>> PackedEvaluator<F, F, EF> for EmbeddedCoor
 
     #[inline]
     fn multiply_packed(share: EF::ExtensionPacking, coordinate: F) -> EF::ExtensionPacking {
-        let splat = <F::Packing as PackedValue>::splat(coordinate);
-        scale_by_packing::<F, EF>(share, splat)
+        scale_by_base::<F, EF>(share, coordinate)
     }
 
     ghost in_every_lane = { lanes-of_splat F.Packing.lanes_are EF.ExtensionPacking.ext_lanes

@@ -3,7 +3,8 @@ use Rattle.mlu_ring.specs.Fours.{in_order}
 use Rattle.mlu_ring.specs.Lanes.{IsLists}
 use Rattle.mlu_ring.specs.Tables.{pair}
 use Rattle.mlu_ring.proofs.Pairs.{pair-of_four}
-use Rattle.mlu_eq.proofs.FourScaled.{four_scaled, written}
+use Rattle.mlu_ring.proofs.Filled.{written}
+use Rattle.mlu_eq.proofs.FourScaled.{four_scaled}
 use Rattle.mlu_eq.proofs.split.dot.four_scaled.Goals as goal
 
 pub returns-then-DIMENSION-ne-COEFFICIENTS : goal.returns-then-DIMENSION-ne-COEFFICIENTS
