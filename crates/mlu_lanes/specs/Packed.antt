@@ -1,5 +1,5 @@
 -- Packed residues, lane by lane.
-use Rattle.std.specs.Prelude.{ℕ, List, slice_index_or}
+use Rattle.std.specs.Prelude.{◌≡◌, ℕ, List, slice_index_or}
 use Rattle.mlu_lanes.specs.BabyBear.{canonical, reduced}
 use Rattle.mlu_lanes.specs.LaneRing.{values_of}
 use Rattle.mlu_lanes.specs.declared.baby_bear.BabyBear.{BabyBear}
@@ -12,3 +12,9 @@ residue p j = canonical (slice_index_or (values_of p) j (reduced 0))
 -- that of entry k
 abbrev pub residue_at : {W : ℕ} → List (BabyBear W) → ℕ → ℕ
 residue_at elements k = canonical (slice_index_or elements k (reduced 0))
+
+-- these are lane k of four packed values
+abbrev pub IsLane : {W : ℕ} → Lanes (BabyBear W) W → Lanes (BabyBear W) W → Lanes (BabyBear W) W → Lanes (BabyBear W) W → ℕ → BabyBear W × BabyBear W × BabyBear W × BabyBear W → Type 0
+IsLane p q r s k four =
+    (four.0 ≡ slice_index_or (values_of p) k (reduced 0)) × (four.1 ≡ slice_index_or (values_of q) k (reduced 0))
+    × (four.2 ≡ slice_index_or (values_of r) k (reduced 0)) × (four.3 ≡ slice_index_or (values_of s) k (reduced 0))

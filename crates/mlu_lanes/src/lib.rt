@@ -14,7 +14,7 @@ mod words;
 mod wrapping;
 
 pub use baby_bear::columns::column_times_rows;
-pub use baby_bear::transpose::coefficient_columns;
+pub use baby_bear::transpose::{coefficient_columns, four_lanes};
 pub use baby_bear::{BabyBear, MODULUS};
 pub use coefficients::Coefficients;
 pub use lanes::{LaneWidth, Lanes};

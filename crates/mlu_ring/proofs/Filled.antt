@@ -1,5 +1,5 @@
 -- A list that a loop fills place by place.
-use Rattle.std.proofs.Common.{◌≡◌, ◌<◌, ◌≤◌, ◌≢◌, ◌+◌, ℕ, zero, suc, List, [], ◌∷◌, length, map, get_or, set, refl, sym, ap, ◌∙◌, arith, get_or-set_other, get_or-set_same, below_more, subst, lit<}
+use Rattle.std.proofs.Common.{◌≡◌, ◌<◌, ◌≤◌, ◌≢◌, ◌+◌, ℕ, zero, suc, List, [], ◌∷◌, length, map, get_or, set, refl, sym, ap, ◌∙◌, arith, get_or-set_other, get_or-set_same, length-set, below_more, subst, lit<}
 use Rattle.std.proofs.lemmas.List.{ext_get_or, get_or-map, get_or_default}
 
 module _ {A : Type 0} (d : A) where
@@ -30,6 +30,19 @@ module _ {A : Type 0} (d : A) where
 
   pub filled_next : (xs ys : List A) (n : ℕ) (x : A) → n < length xs → IsFilled xs ys n → x ≡ get_or ys n d → IsFilled (set xs n x) ys (n + 1)
   filled_next xs ys n x room done e = filled_by_next xs (λ k. get_or ys k d) n x room done e
+
+  pub filled_four_next : (xs ys : List A) (n m : ℕ) (a b c e : A) → m ≡ n + 4 → n + 3 < length xs → IsFilled xs ys n
+      → a ≡ get_or ys n d → b ≡ get_or ys (n + 1) d → c ≡ get_or ys (n + 2) d → e ≡ get_or ys (n + 3) d
+      → IsFilled (set (set (set (set xs n a) (n + 1) b) (n + 2) c) (n + 3) e) ys m
+  filled_four_next xs ys n m a b c e end room done is_a is_b is_c is_e =
+      let first = length-set xs n a in
+      let second = length-set (set xs n a) (n + 1) b in
+      let third = length-set (set (set xs n a) (n + 1) b) (n + 2) c in
+      let one = filled_next xs ys n a (omega (arith, room)) done is_a in
+      let two = filled_next (set xs n a) ys (n + 1) b (omega (arith, room, first)) one is_b in
+      let three = filled_next (set (set xs n a) (n + 1) b) ys (n + 2) c (omega (arith, room, first, second)) (λ i h. two i (omega arith)) is_c in
+      let four = filled_next (set (set (set xs n a) (n + 1) b) (n + 2) c) ys (n + 3) e (omega (arith, room, first, second, third)) (λ i h. three i (omega arith)) is_e in
+      λ i h. four i (omega (arith, end))
 
   pub filled_whole : (xs ys : List A) (n : ℕ) → length xs ≤ n → length xs ≡ length ys → IsFilled xs ys n → xs ≡ ys
   filled_whole xs ys n h e done = ext_get_or d xs ys e (λ k below. done k (omega arith))

@@ -6,8 +6,11 @@ ghost use Rattle.mlu_ext.specs.QuarticPacked.{quartic_elements, quartic_of_eleme
 ghost use Rattle.mlu_ext.specs.QuarticMaps.{quartic_are_lists};
 
 use super::QuarticExtension;
-use mlu_lanes::{BabyBear, Coefficients, LaneWidth, Lanes, coefficient_columns};
+use mlu_lanes::{BabyBear, Coefficients, LaneWidth, Lanes, coefficient_columns, four_lanes};
 use mlu_ring::{PackedFieldExtension, PackedValue};
+
+/// The lanes that are stored at a time.
+const GROUP: usize = 4;
 
 impl<const W: usize> PackedFieldExtension<BabyBear<W>, QuarticExtension<BabyBear<W>>>
     for QuarticExtension<Lanes<BabyBear<W>, W>>
@@ -30,7 +33,17 @@ where
 
     #[inline]
     fn store_ext(&self, out: &mut [QuarticExtension<BabyBear<W>>]) {
-        for k in 0..W {
+        let packed = (self.c0, self.c1, self.c2, self.c3);
+        let groups = W / GROUP;
+        for g in 0..groups {
+            let k = GROUP * g;
+            let (first, second, third, fourth) = four_lanes(&packed, k);
+            out[k] = QuarticExtension::new(first.0, first.1, first.2, first.3);
+            out[k + 1] = QuarticExtension::new(second.0, second.1, second.2, second.3);
+            out[k + 2] = QuarticExtension::new(third.0, third.1, third.2, third.3);
+            out[k + 3] = QuarticExtension::new(fourth.0, fourth.1, fourth.2, fourth.3);
+        }
+        for k in GROUP * groups..W {
             out[k] = self.ext_lane(k);
         }
     }

@@ -187,7 +187,7 @@ pub fn prepared_sums_at<const W: usize>(
 
 /// The least residues at four places from `k` on. The compiler makes one load of them.
 #[inline]
-fn words_at<const W: usize>(elements: &[BabyBear<W>], k: usize) -> Simd<u32, 4>
+pub fn words_at<const W: usize>(elements: &[BabyBear<W>], k: usize) -> Simd<u32, 4>
     requires { k + 3 < length elements.now }
     ensures value { (j : ℕ) → j < 4 → slice_index result j ≡ residue_at elements.now (k + j) }
     ensures least { (j : ℕ) → j < 4 → slice_index result j < MODULUS }

@@ -1,16 +1,20 @@
 //! Coefficients of elements side by side: four elements are four rows of words, which are transposed.
-ghost use Rattle.std.specs.Prelude.{◌≡◌, ℕ, ◌<◌, length, slice_index};
+ghost use Rattle.std.specs.Prelude.{◌≡◌, ℕ, ◌+◌, ◌<◌, length, slice_index};
 ghost use Rattle.mlu_lanes.specs.BabyBear.{reduced};
 ghost use Rattle.mlu_lanes.specs.Columns.{column_of};
 ghost use Rattle.mlu_lanes.specs.LaneRing.{values_of};
+ghost use Rattle.mlu_lanes.specs.Packed.{IsLane};
 
 use super::columns::row;
-use super::rows::put;
+use super::rows::{elements_of, put, words_at};
 use super::{BabyBear, MODULUS};
 use crate::coefficients::Coefficients;
 use crate::lanes::Lanes;
 use crate::words::{all, least, transposed};
 use std::simd::prelude::*;
+
+/// The coefficients of one element.
+type Four<T> = (T, T, T, T);
 
 /// The elements whose words are transposed at a time.
 const GROUP: usize = 4;
@@ -62,6 +66,43 @@ pub fn coefficient_columns<const W: usize, E: Coefficients<BabyBear<W>>>(
         Lanes::from_array(second),
         Lanes::from_array(third),
         Lanes::from_array(fourth),
+    )
+}
+
+/// Lanes `k` to `k + 3` of four packed values, those of one lane side by side. Asks that there are so
+/// many lanes.
+#[inline]
+pub fn four_lanes<const W: usize>(
+    packed: &(
+        Lanes<BabyBear<W>, W>,
+        Lanes<BabyBear<W>, W>,
+        Lanes<BabyBear<W>, W>,
+        Lanes<BabyBear<W>, W>,
+    ),
+    k: usize,
+) -> (
+    Four<BabyBear<W>>,
+    Four<BabyBear<W>>,
+    Four<BabyBear<W>>,
+    Four<BabyBear<W>>,
+)
+    requires { k + 3 < W }
+    ensures first { IsLane packed.now.0 packed.now.1 packed.now.2 packed.now.3 k result.0 }
+    ensures second { IsLane packed.now.0 packed.now.1 packed.now.2 packed.now.3 (k + 1) result.1 }
+    ensures third { IsLane packed.now.0 packed.now.1 packed.now.2 packed.now.3 (k + 2) result.2 }
+    ensures fourth { IsLane packed.now.0 packed.now.1 packed.now.2 packed.now.3 (k + 3) result.3 }
+{
+    let columns = transposed(&(
+        words_at(&packed.0.to_array(), k),
+        words_at(&packed.1.to_array(), k),
+        words_at(&packed.2.to_array(), k),
+        words_at(&packed.3.to_array(), k),
+    ));
+    (
+        elements_of(kept_together(columns.0)),
+        elements_of(kept_together(columns.1)),
+        elements_of(kept_together(columns.2)),
+        elements_of(kept_together(columns.3)),
     )
 }
 
