@@ -54,9 +54,14 @@ module _ {P V : Type 0} (packed : Ring P) (ring : Ring V) (lanes : P → List V)
       ∙ sym (zip2-append ring.sum (lanes p) (logical lanes ps) (map (ring.product x) (lanes w)) (map (ring.product x) (logical lanes ws)) same)
       ∙ ap (λ vs. zip2 ring.sum (lanes p ++ logical lanes ps) vs) (sym (map-append (ring.product x) (lanes w) (logical lanes ws)))
 
-  -- one packed weight, times x, added to a group
+  -- one packed weight, times x
+  pub lanes-multiplied : (q w : P) (ws : List P) (i : ℕ) (x : V) → i < length ws → w ≡ get_or ws i w → lanes q ≡ replicate n x
+      → lanes (packed.product q w) ≡ take n (drop (i * n) (map (ring.product x) (logical lanes ws)))
+  lanes-multiplied q w ws i x h at_w is = lanes-splat_product q w x is ∙ map-logical_block lanes n parts.length-parts (ring.product x) ws i w h at_w
+
+  -- and added to a group
   pub lanes-added : (group q w : P) (ws : List P) (i : ℕ) (x : V) → i < length ws → w ≡ get_or ws i w → lanes q ≡ replicate n x
       → lanes (packed.sum group (packed.product q w)) ≡ zip2 ring.sum (lanes group) (take n (drop (i * n) (map (ring.product x) (logical lanes ws))))
   lanes-added group q w ws i x h at_w is =
       each.sum group (packed.product q w)
-      ∙ ap (λ vs. zip2 ring.sum (lanes group) vs) (lanes-splat_product q w x is ∙ map-logical_block lanes n parts.length-parts (ring.product x) ws i w h at_w)
+      ∙ ap (λ vs. zip2 ring.sum (lanes group) vs) (lanes-multiplied q w ws i x h at_w is)

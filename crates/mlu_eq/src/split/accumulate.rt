@@ -1,14 +1,19 @@
 //! The split table, times a scale, added to an output.
-ghost use Rattle.std.specs.Prelude.{◌≡◌, ◌*◌, length, IsTrue};
+ghost use Rattle.std.specs.Prelude.{◌≡◌, ◌*◌, ◌<◌, ◌≤◌, length, IsTrue};
+ghost use Rattle.std.specs.Mem.{type_size};
 ghost use Rattle.mlu_ring.specs.Sums.{plus_scaled};
 ghost use Rattle.mlu_ring.specs.Lanes.{logical};
 ghost use Rattle.mlu_eq.specs.Split.{contents};
 
 use crate::half::{EqMaybePacked, Weights};
+use mlu_kernel::small::{SMALL_BYTES, is_small};
 use mlu_ring::{
     Additive, Algebra, ExtensionField, Field, Lanewise, PackedFieldExtension, PackedValue,
     PrimeCharacteristicRing,
 };
+
+/// The most lanes that are stored as elements on the stack.
+const MOST_LANES: usize = 16;
 
 /// Adds each entry of the split table, times `scale`, to its place of `out`. Asks for as many
 /// places as the split table has entries.
@@ -119,11 +124,47 @@ pub(crate) fn add_lanes<F: Field, EF: ExtensionField<F>>(
     ensures { out.new ≡ plus_scaled EF.ring out.old factor (logical EF.ExtensionPacking.ext_lanes weights.now) }
 {
     let width = F::Packing::WIDTH;
+    if takes_elements::<F, EF>() {
+        let mut lanes = [EF::ZERO; MOST_LANES];
+        return add_lanes_by_elements::<F, EF>(out, weights, factor, &mut lanes[..width]);
+    }
     for i in 0..weights.len() {
         let start = i * width;
         let group = &mut out[start..start + width];
         let scaled = <EF::ExtensionPacking as Algebra<EF>>::scale(weights[i], factor);
         let sum = EF::ExtensionPacking::from_ext_slice(group) + scaled;
         sum.store_ext(group);
+    }
+}
+
+/// Whether lanes are stored as elements on the stack before they are added. A constant, once the types
+/// are known.
+#[inline]
+fn takes_elements<F: Field, EF: ExtensionField<F>>() -> bool
+    ensures { IsTrue result → (F.Packing.WIDTH ≤ MOST_LANES) × (type_size EF.row < SMALL_BYTES) }
+{
+    F::Packing::WIDTH <= MOST_LANES && is_small(&EF::ZERO)
+}
+
+/// [`add_lanes`] by way of the elements of a group: the output is not turned into lanes and back.
+///
+/// Asks for room for the lanes of a packing. What it then holds is not promised.
+#[inline]
+fn add_lanes_by_elements<F: Field, EF: ExtensionField<F>>(
+    out: &mut [EF],
+    weights: &[EF::ExtensionPacking],
+    factor: EF,
+    lanes: &mut [EF],
+)
+    requires size { length out.old ≡ length weights.now * F.Packing.WIDTH }
+    requires room { length lanes.old ≡ F.Packing.WIDTH }
+    ensures { out.new ≡ plus_scaled EF.ring out.old factor (logical EF.ExtensionPacking.ext_lanes weights.now) }
+{
+    let width = F::Packing::WIDTH;
+    for i in 0..weights.len() {
+        let start = i * width;
+        let scaled = <EF::ExtensionPacking as Algebra<EF>>::scale(weights[i], factor);
+        scaled.store_ext(lanes);
+        EF::add_each(&mut out[start..start + width], lanes);
     }
 }

@@ -13,7 +13,7 @@ use crate::lanes::Lanes;
 use crate::words::{all, least, transposed};
 use std::simd::prelude::*;
 
-/// The coefficients of one element.
+/// What four coefficients, or four elements, have each.
 type Four<T> = (T, T, T, T);
 
 /// The elements whose words are transposed at a time.
@@ -24,12 +24,7 @@ const GROUP: usize = 4;
 #[inline]
 pub fn coefficient_columns<const W: usize, E: Coefficients<BabyBear<W>>>(
     elements: &[E],
-) -> (
-    Lanes<BabyBear<W>, W>,
-    Lanes<BabyBear<W>, W>,
-    Lanes<BabyBear<W>, W>,
-    Lanes<BabyBear<W>, W>,
-)
+) -> Four<Lanes<BabyBear<W>, W>>
     requires width { length elements.now ≡ W }
     requires four { E.count ≡ 4 }
     ensures first { values_of result.0 ≡ column_of (reduced 0) E.list elements.now 0 }
@@ -73,19 +68,9 @@ pub fn coefficient_columns<const W: usize, E: Coefficients<BabyBear<W>>>(
 /// many lanes.
 #[inline]
 pub fn four_lanes<const W: usize>(
-    packed: &(
-        Lanes<BabyBear<W>, W>,
-        Lanes<BabyBear<W>, W>,
-        Lanes<BabyBear<W>, W>,
-        Lanes<BabyBear<W>, W>,
-    ),
+    packed: &Four<Lanes<BabyBear<W>, W>>,
     k: usize,
-) -> (
-    Four<BabyBear<W>>,
-    Four<BabyBear<W>>,
-    Four<BabyBear<W>>,
-    Four<BabyBear<W>>,
-)
+) -> Four<Four<BabyBear<W>>>
     requires { k + 3 < W }
     ensures first { IsLane packed.now.0 packed.now.1 packed.now.2 packed.now.3 k result.0 }
     ensures second { IsLane packed.now.0 packed.now.1 packed.now.2 packed.now.3 (k + 1) result.1 }
