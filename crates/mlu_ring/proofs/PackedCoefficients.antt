@@ -130,3 +130,17 @@ module _ {B E P Q : Type 0} {base : Ring B} {ext : Ring E} {packing : Ring P} {p
       sym (lists.whole-parts p)
       ∙ ap of_packed_coefficients (ext_get_or packing.zero (packed_coefficients p) (packed_coefficients q) (long ∙ sym (lists.length-parts q)) (λ c h. same c (rw (← long) h)))
       ∙ lists.whole-parts q
+
+  -- a packed value whose coefficients are those of another, each times a packed value of the base
+  pub scaled_each : (p q : Q) (f : P) → ((c : ℕ) → c < dimension → get_or (packed_coefficients q) c packing.zero ≡ packing.product (get_or (packed_coefficients p) c packing.zero) f) → q ≡ packed.product p (embed_packing f)
+  scaled_each p q f each = by_coefficients q (packed.product p (embed_packing f)) (λ c h. each c h ∙ sym (coefficient-scale p f c h))
+
+  -- or a packed value of the base, times each coefficient of an element
+  pub scaled_by_element : (embed_element : E → Q) → ((x : E) → ext_lanes (embed_element x) ≡ replicate width x) → (x : E) (q : Q) (f : P)
+      → ((c : ℕ) → c < dimension → get_or (packed_coefficients q) c packing.zero ≡ packing.product f (splat_of width of_lanes (get_or (coefficients x) c base.zero))) → q ≡ packed.product (embed_element x) (embed_packing f)
+  scaled_by_element embed_element in_each_lane x q f each =
+      scaled_each (embed_element x) q f
+      (λ c h.
+      each c h
+      ∙ laws.packing_laws.product_comm f (splat_of width of_lanes (get_or (coefficients x) c base.zero))
+      ∙ ap (λ t. packing.product t f) (sym (coefficient-splat embed_element in_each_lane x c h)))

@@ -1,32 +1,23 @@
-use Rattle.std.proofs.Common.{◌≢◌, ◌<◌, ◌∙◌, length, get_or, ap, sym, arith, below_more, get_or-set_other, get_or-set_same}
-use Rattle.mlu_ring.proofs.PackedCoefficients.{packed_extension, by_coefficients, coefficient-scale}
+use Rattle.std.proofs.Common.{ℕ, ◌<◌, ◌∙◌, length, get_or, ap, arith}
+use Rattle.mlu_ring.proofs.Filled.{filled_by_next}
+use Rattle.mlu_ring.proofs.PackedCoefficients.{packed_extension, scaled_each}
 use Rattle.mlu_ring.proofs.extension.scale_by_packing.Goals as goal
 
 pub loop-k-preserved : goal.loop-k-preserved
 loop-k-preserved g c =
     let packing = g.F.Packing.Additive.ring in
+    let of = λ (p : g.row.F-Packing.Denot). packing.product p c.args.factor in
     let old = g.EF.ExtensionPacking.PackedFieldExtension.packed_coefficients c.loop-k.scaled in
-    let k = c.loop-k.k in
-    let product = c.lanes_mul-product.result in
     let long = g.met.EF.ExtensionPacking.PackedFieldExtension.coefficients_are.length-parts c.loop-k.scaled in
-    let within : k < length old = omega (arith, long, c.DIMENSION-k-end.ensures) in
-    below_more _ _
-    (λ j h.
-    let other : j ≢ k = omega arith in
-    ap (λ l. get_or l j packing.zero) c.set_packed_coefficient.ensures ∙ get_or-set_other old k j product packing.zero other ∙ c.loop-k.invariant j h)
-    (ap (λ l. get_or l k packing.zero) c.set_packed_coefficient.ensures
-    ∙ get_or-set_same old k product packing.zero within
-    ∙ c.lanes_mul-product.ensures
-    ∙ ap (λ p. packing.product p c.args.factor) (c.packed_coefficient.ensures packing.zero))
+    let within : c.loop-k.k < length (g.EF.ExtensionPacking.PackedFieldExtension.packed_coefficients c.loop-k.scaled) = omega (arith, long, c.DIMENSION-k-end.ensures) in
+    λ j h.
+    ap (λ l. get_or l j packing.zero) c.set_packed_coefficient.ensures
+    ∙ filled_by_next packing.zero old (λ (k : ℕ). of (get_or (g.EF.ExtensionPacking.PackedFieldExtension.packed_coefficients c.args.packed) k packing.zero)) c.loop-k.k c.lanes_mul-product.result within c.loop-k.invariant (c.lanes_mul-product.ensures ∙ ap of (c.packed_coefficient.ensures packing.zero)) j h
 
 pub returns : goal.returns
 returns g c =
-    let packing = g.F.Packing.Additive.ring in
-    let packed = g.EF.ExtensionPacking.Additive.ring in
     let met = g.met.EF.ExtensionPacking.PackedFieldExtension in
-    let embed = g.EF.ExtensionPacking.Algebra-2.embed in
     let laws = packed_extension g.met.F.Packing.PackedValue.lanes_are g.met.F.Lanewise.lane_by_lane g.met.F.Packing.Additive.laws
     g.met.EF.Additive.laws g.met.EF.ExtensionField.coefficients_are g.met.EF.ExtensionField.coefficients_sum g.met.EF.ExtensionField.coefficients_scale
     g.met.EF.ExtensionPacking.Additive.laws met.lanes_are met.lane_by_lane met.embeds_packing met.coefficients_are met.transposed in
-    by_coefficients laws c.loop-k.scaled (packed.product c.args.packed (embed c.args.factor)) (λ j h.
-    c.loop-k.invariant j (omega (arith, c.DIMENSION-k-end.ensures)) ∙ sym (coefficient-scale laws c.args.packed c.args.factor j h))
+    scaled_each laws c.args.packed c.loop-k.scaled c.args.factor (λ j h. c.loop-k.invariant j (omega (arith, c.DIMENSION-k-end.ensures)))

@@ -1,62 +1,44 @@
-use Rattle.std.proofs.Common.{◌≡◌, ◌≢◌, ℕ, ◌<◌, ◌∙◌, length, get_or, ap, sym, arith, below_more, get_or-set_other, get_or-set_same}
+use Rattle.std.proofs.Common.{◌≡◌, ℕ, ◌<◌, ◌∙◌, length, get_or, ap, arith}
 use Rattle.mlu_ring.specs.Lanes.{splat_of}
-use Rattle.mlu_ring.proofs.Filled.{four-at}
-use Rattle.mlu_ring.proofs.PackedCoefficients.{packed_extension, by_coefficients, coefficient-scale, coefficient-splat}
+use Rattle.mlu_ring.proofs.Filled.{filled_by_next, four-at}
+use Rattle.mlu_ring.proofs.PackedCoefficients.{packed_extension, scaled_by_element}
 use Rattle.mlu_ring.proofs.extension.scale_packing.Goals as goal
 
 pub returns-then-DIMENSION-eq-FOUR : goal.returns-then-DIMENSION-eq-FOUR
 returns-then-DIMENSION-eq-FOUR g c =
     let packing = g.F.Packing.Additive.ring in
-    let packed = g.EF.ExtensionPacking.Additive.ring in
-    let met = g.met.EF.ExtensionPacking.PackedFieldExtension in
+    let zero = g.F.Additive.ring.zero in
     let splat = splat_of g.F.Packing.PackedValue.WIDTH g.F.Packing.PackedValue.of_lanes in
+    let of = λ (x : g.row.F.Denot). packing.product c.args.factor (splat x) in
+    let met = g.met.EF.ExtensionPacking.PackedFieldExtension in
     let laws = packed_extension g.met.F.Packing.PackedValue.lanes_are g.met.F.Lanewise.lane_by_lane g.met.F.Packing.Additive.laws
     g.met.EF.Additive.laws g.met.EF.ExtensionField.coefficients_are g.met.EF.ExtensionField.coefficients_sum g.met.EF.ExtensionField.coefficients_scale
     g.met.EF.ExtensionPacking.Additive.laws met.lanes_are met.lane_by_lane met.embeds_packing met.coefficients_are met.transposed in
     let four : g.EF.ExtensionField.DIMENSION ≡ 4 = omega (arith, c.DIMENSION.ensures, c.if-DIMENSION-eq-FOUR.true) in
-    let zero = g.F.Additive.ring.zero in
-    let of = λ (x : g.row.F.Denot). packing.product c.args.factor (splat x) in
     let each = four-at (g.EF.ExtensionPacking.PackedFieldExtension.packed_coefficients c.packed_of_four.result) _ _ _ _ packing.zero
-    (λ (k : ℕ). of (get_or (g.EF.ExtensionField.coefficients c.args.element) k zero)) c.packed_of_four.ensures
+    (λ (k : ℕ). of (get_or (g.EF.ExtensionField.coefficients c.args.element) k g.F.Additive.ring.zero)) c.packed_of_four.ensures
     (c.lanes_scale.ensures ∙ ap of (c.coefficient.ensures zero))
     (c.lanes_scale-then-DIMENSION-eq-FOUR.ensures ∙ ap of (c.coefficient-then-DIMENSION-eq-FOUR.ensures zero))
     (c.lanes_scale-then-DIMENSION-eq-FOUR-2.ensures ∙ ap of (c.coefficient-then-DIMENSION-eq-FOUR-2.ensures zero))
     (c.lanes_scale-then-DIMENSION-eq-FOUR-3.ensures ∙ ap of (c.coefficient-then-DIMENSION-eq-FOUR-3.ensures zero)) in
-    by_coefficients laws c.packed_of_four.result (packed.product (g.EF.ExtensionPacking.Algebra-1.embed c.args.element) (g.EF.ExtensionPacking.Algebra-2.embed c.args.factor)) (λ j h.
-    each j (omega (arith, h, four))
-    ∙ g.met.F.Packing.Additive.laws.product_comm c.args.factor (splat (get_or (g.EF.ExtensionField.coefficients c.args.element) j g.F.Additive.ring.zero))
-    ∙ ap (λ t. packing.product t c.args.factor) (sym (coefficient-splat laws g.EF.ExtensionPacking.Algebra-1.embed met.embeds_element c.args.element j h))
-    ∙ sym (coefficient-scale laws (g.EF.ExtensionPacking.Algebra-1.embed c.args.element) c.args.factor j h))
+    scaled_by_element laws g.EF.ExtensionPacking.Algebra-1.embed met.embeds_element c.args.element c.packed_of_four.result c.args.factor (λ j h. each j (omega (arith, h, four)))
 
 pub loop-k-preserved : goal.loop-k-preserved
 loop-k-preserved g c =
     let packing = g.F.Packing.Additive.ring in
     let splat = splat_of g.F.Packing.PackedValue.WIDTH g.F.Packing.PackedValue.of_lanes in
+    let of = λ (x : g.row.F.Denot). packing.product c.args.factor (splat x) in
     let old = g.EF.ExtensionPacking.PackedFieldExtension.packed_coefficients c.loop-k.scaled in
-    let k = c.loop-k.k in
-    let product = c.lanes_scale-product.result in
     let long = g.met.EF.ExtensionPacking.PackedFieldExtension.coefficients_are.length-parts c.loop-k.scaled in
-    let within : k < length old = omega (arith, long, c.DIMENSION-k-end.ensures) in
-    below_more _ _
-    (λ j h.
-    let other : j ≢ k = omega arith in
-    ap (λ l. get_or l j packing.zero) c.set_packed_coefficient.ensures ∙ get_or-set_other old k j product packing.zero other ∙ c.loop-k.invariant j h)
-    (ap (λ l. get_or l k packing.zero) c.set_packed_coefficient.ensures
-    ∙ get_or-set_same old k product packing.zero within
-    ∙ c.lanes_scale-product.ensures
-    ∙ ap (λ x. packing.product c.args.factor (splat x)) (c.coefficient-in-loop-k.ensures g.F.Additive.ring.zero))
+    let within : c.loop-k.k < length (g.EF.ExtensionPacking.PackedFieldExtension.packed_coefficients c.loop-k.scaled) = omega (arith, long, c.DIMENSION-k-end.ensures) in
+    λ j h.
+    ap (λ l. get_or l j packing.zero) c.set_packed_coefficient.ensures
+    ∙ filled_by_next packing.zero old (λ (k : ℕ). of (get_or (g.EF.ExtensionField.coefficients c.args.element) k g.F.Additive.ring.zero)) c.loop-k.k c.lanes_scale-product.result within c.loop-k.invariant (c.lanes_scale-product.ensures ∙ ap of (c.coefficient-in-loop-k.ensures g.F.Additive.ring.zero)) j h
 
 pub returns : goal.returns
 returns g c =
-    let packing = g.F.Packing.Additive.ring in
-    let packed = g.EF.ExtensionPacking.Additive.ring in
     let met = g.met.EF.ExtensionPacking.PackedFieldExtension in
-    let splat = splat_of g.F.Packing.PackedValue.WIDTH g.F.Packing.PackedValue.of_lanes in
     let laws = packed_extension g.met.F.Packing.PackedValue.lanes_are g.met.F.Lanewise.lane_by_lane g.met.F.Packing.Additive.laws
     g.met.EF.Additive.laws g.met.EF.ExtensionField.coefficients_are g.met.EF.ExtensionField.coefficients_sum g.met.EF.ExtensionField.coefficients_scale
     g.met.EF.ExtensionPacking.Additive.laws met.lanes_are met.lane_by_lane met.embeds_packing met.coefficients_are met.transposed in
-    by_coefficients laws c.loop-k.scaled (packed.product (g.EF.ExtensionPacking.Algebra-1.embed c.args.element) (g.EF.ExtensionPacking.Algebra-2.embed c.args.factor)) (λ j h.
-    c.loop-k.invariant j (omega (arith, c.DIMENSION-k-end.ensures))
-    ∙ g.met.F.Packing.Additive.laws.product_comm c.args.factor (splat (get_or (g.EF.ExtensionField.coefficients c.args.element) j g.F.Additive.ring.zero))
-    ∙ ap (λ t. packing.product t c.args.factor) (sym (coefficient-splat laws g.EF.ExtensionPacking.Algebra-1.embed met.embeds_element c.args.element j h))
-    ∙ sym (coefficient-scale laws (g.EF.ExtensionPacking.Algebra-1.embed c.args.element) c.args.factor j h))
+    scaled_by_element laws g.EF.ExtensionPacking.Algebra-1.embed met.embeds_element c.args.element c.loop-k.scaled c.args.factor (λ j h. c.loop-k.invariant j (omega (arith, c.DIMENSION-k-end.ensures)))
