@@ -1,7 +1,7 @@
 //! Worked values of each extension: products, scales, and coefficients in lanes.
 use super::{Bear, Quartic, quartic};
 use mlu_ext::ProductAlgebra;
-use mlu_lanes::{Lanes, coefficient_columns};
+use mlu_lanes::{Lanes, coefficient_columns, four_lanes};
 use mlu_ring::{Additive, Algebra, ExtensionField, PackedFieldExtension};
 
 #[test]
@@ -37,6 +37,11 @@ fn packs_coefficient_by_coefficient(rt: HostRuntime) {
     ];
     assert_eq!(rt; packed.c2, Lanes::from_array(thirds));
     assert_eq!(rt; coefficient_columns(&elements).2, packed.c2);
+    let second = four_lanes(&(packed.c0, packed.c1, packed.c2, packed.c3), 0).1;
+    assert_eq!(rt;
+        Quartic::new(second.0, second.1, second.2, second.3),
+        elements[1]
+    );
     let cube = quartic(0, 0, 0, 1);
     assert_eq!(rt; packed.scale(cube).ext_lane(0), quartic(22, 33, 44, 1));
     assert_eq!(rt; packed.scale(cube).ext_lane(3), elements[3] * cube);
