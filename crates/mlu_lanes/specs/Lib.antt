@@ -6,3 +6,4 @@ pub mod Residues
 pub mod BabyBear
 pub mod WrappingU64
 pub mod Packed
+pub mod Words

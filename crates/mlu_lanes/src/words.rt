@@ -1,5 +1,6 @@
 //! Vectors of words at any width: what std::simd gives, each operation with its clause for a lane.
 ghost use Rattle.std.specs.Prelude.{◌≡◌, ℕ, ◌+◌, ◌-◌, ◌*◌, ◌/◌, ◌%◌, ◌^◌, ◌<◌, ◌≤◌, slice_index, min, bit_and};
+ghost use Rattle.mlu_lanes.specs.Words.{AreEntries, IsColumn};
 
 use std::simd::prelude::*;
 
@@ -137,10 +138,8 @@ fn masked<const W: usize>(words: Simd<u64, W>, mask: Simd<u64, W>) -> Simd<u64, 
 /// The words of both in turns: those of the first halves, and those of the last ones.
 #[inline]
 pub fn in_turns(a: Simd<u32, 4>, b: Simd<u32, 4>) -> (Simd<u32, 4>, Simd<u32, 4>)
-    ensures first { (slice_index result.0 0 ≡ slice_index a 0) × (slice_index result.0 1 ≡ slice_index b 0)
-        × (slice_index result.0 2 ≡ slice_index a 1) × (slice_index result.0 3 ≡ slice_index b 1) }
-    ensures last { (slice_index result.1 0 ≡ slice_index a 2) × (slice_index result.1 1 ≡ slice_index b 2)
-        × (slice_index result.1 2 ≡ slice_index a 3) × (slice_index result.1 3 ≡ slice_index b 3) }
+    ensures first { AreEntries result.0 (slice_index a 0) (slice_index b 0) (slice_index a 1) (slice_index b 1) }
+    ensures last { AreEntries result.1 (slice_index a 2) (slice_index b 2) (slice_index a 3) (slice_index b 3) }
 {
     a.interleave(b)
 }
@@ -150,14 +149,10 @@ pub fn in_turns(a: Simd<u32, 4>, b: Simd<u32, 4>) -> (Simd<u32, 4>, Simd<u32, 4>
 pub fn transposed(
     rows: &(Simd<u32, 4>, Simd<u32, 4>, Simd<u32, 4>, Simd<u32, 4>),
 ) -> (Simd<u32, 4>, Simd<u32, 4>, Simd<u32, 4>, Simd<u32, 4>)
-    ensures first { (slice_index result.0 0 ≡ slice_index rows.now.0 0) × (slice_index result.0 1 ≡ slice_index rows.now.1 0)
-        × (slice_index result.0 2 ≡ slice_index rows.now.2 0) × (slice_index result.0 3 ≡ slice_index rows.now.3 0) }
-    ensures second { (slice_index result.1 0 ≡ slice_index rows.now.0 1) × (slice_index result.1 1 ≡ slice_index rows.now.1 1)
-        × (slice_index result.1 2 ≡ slice_index rows.now.2 1) × (slice_index result.1 3 ≡ slice_index rows.now.3 1) }
-    ensures third { (slice_index result.2 0 ≡ slice_index rows.now.0 2) × (slice_index result.2 1 ≡ slice_index rows.now.1 2)
-        × (slice_index result.2 2 ≡ slice_index rows.now.2 2) × (slice_index result.2 3 ≡ slice_index rows.now.3 2) }
-    ensures fourth { (slice_index result.3 0 ≡ slice_index rows.now.0 3) × (slice_index result.3 1 ≡ slice_index rows.now.1 3)
-        × (slice_index result.3 2 ≡ slice_index rows.now.2 3) × (slice_index result.3 3 ≡ slice_index rows.now.3 3) }
+    ensures first { IsColumn result.0 rows.now.0 rows.now.1 rows.now.2 rows.now.3 0 }
+    ensures second { IsColumn result.1 rows.now.0 rows.now.1 rows.now.2 rows.now.3 1 }
+    ensures third { IsColumn result.2 rows.now.0 rows.now.1 rows.now.2 rows.now.3 2 }
+    ensures fourth { IsColumn result.3 rows.now.0 rows.now.1 rows.now.2 rows.now.3 3 }
 {
     let (even_low, even_high) = in_turns(rows.0, rows.2);
     let (odd_low, odd_high) = in_turns(rows.1, rows.3);
