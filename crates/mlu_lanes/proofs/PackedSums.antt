@@ -1,5 +1,5 @@
 -- Products of packed residues and sums of four, from lanes that are reduced once.
-use Rattle.std.proofs.Common.{◌≡◌, ℕ, ◌+◌, ◌*◌, ◌%◌, ◌^◌, ◌<◌, List, [], ◌∷◌, map, length, replicate, get_or, ap, sym, ◌∙◌, arith}
+use Rattle.std.proofs.Common.{◌≡◌, ℕ, ◌+◌, ◌*◌, ◌%◌, ◌^◌, ◌<◌, List, [], ◌∷◌, map, length, replicate, get_or, refl, ap, sym, ◌∙◌, arith}
 use Rattle.std.proofs.lemmas.List.{ext_get_or, get_or-replicate}
 use Rattle.std.proofs.lemmas.Simd.{length-replicate}
 use Rattle.mlu_ring.proofs.Resized.{resized-whole}
@@ -51,6 +51,15 @@ module _ {W : ℕ} where
   lane_of_splat c j below =
       let lanes = resized-whole (reduced 0) W (replicate W c) (length-replicate W c) in
       ap (λ values. get_or values j (reduced 0)) lanes ∙ get_or-replicate W j c (reduced 0) below
+
+  -- the products with a packed value whose lanes were multiplied by 2^32
+  pub product_of_prepared_lanes : (a p product : Lanes (BabyBear W) W)
+      → ((j : ℕ) → j < W → residue product j * 2 ^ 32 % MODULUS ≡ residue a j * (residue p j * FOLD % MODULUS) % MODULUS)
+      → product ≡ (lane_ring W (baby_bear_ring W)).product a p
+  product_of_prepared_lanes a p product each =
+      same_lanes product _ (λ j below.
+      let by_lane = lane_is_ring_map W (baby_bear_ring W) j below in
+      prepared_product (get_or a.values j (reduced 0)) (get_or p.values j (reduced 0)) _ _ refl (each j below) ∙ sym (by_lane.product a p))
 
   -- the products with an element that was multiplied by 2^32
   pub product_of_prepared : (a product : Lanes (BabyBear W) W) (c : BabyBear W) (f : ℕ) → f ≡ canonical c * FOLD % MODULUS

@@ -33,6 +33,15 @@ pub trait Field: Lanewise + PrimeCharacteristicRing {
     fn lanes_mul(a: Self::Packing, b: Self::Packing) -> Self::Packing
         ensures { result ≡ Self.Packing.ring.product a b };
 
+    /// The products with a factor that many packed values meet, as
+    /// [`times_fixed`](PrimeCharacteristicRing::times_fixed) lane by lane.
+    #[inline]
+    fn lanes_times_fixed(p: Self::Packing, factor: Self::Packing) -> Self::Packing
+        ensures { result ≡ Self.Packing.ring.product p factor }
+    {
+        Self::lanes_mul(p, factor)
+    }
+
     /// The products with one element, lane by lane.
     #[inline]
     fn lanes_scale(p: Self::Packing, c: Self) -> Self::Packing

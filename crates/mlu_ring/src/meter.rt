@@ -25,7 +25,8 @@ pub trait Meter<F: Lanewise> {
         ensures made { made self.new ≡ made self.old + 1 }
         ensures groups { groups self.new ≡ groups self.old };
 
-    /// The products, lane by lane. Raises `made` by `WIDTH`.
+    /// The products, lane by lane. Raises `made` by `WIDTH`. Loops by one `b` are fast where the ring
+    /// has a fast [`lanes_times_fixed`](crate::Field::lanes_times_fixed).
     fn times_lanes(&mut self, a: F::Packing, b: F::Packing) -> F::Packing
         ensures value { result ≡ F.Packing.ring.product a b }
         ensures made { made self.new ≡ made self.old + F.Packing.WIDTH }
@@ -79,7 +80,7 @@ impl<F: Field> Meter<F> for Unmetered {
     #[inline]
     fn times_lanes(&mut self, a: F::Packing, b: F::Packing) -> F::Packing {
         self.products.raise(F::Packing::WIDTH);
-        F::lanes_mul(a, b)
+        F::lanes_times_fixed(a, b)
     }
 
     #[inline]

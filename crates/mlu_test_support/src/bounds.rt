@@ -97,25 +97,26 @@ pub fn doubles_and_adds<F: Lanewise>(a: F, b: F, sum: F) -> bool {
     (a + a + F::Packing::splat(b)).lane(0) == sum
 }
 
-/// 10 a b, where each of `l` is a and each of `r` and `c` is b.
-fn tenfold<F: Field>(l: &[F::Packing], r: &[F::Packing], c: &[F]) -> F::Packing
+/// 11 a b, where each of `l` is a and each of `r` and `c` is b.
+fn elevenfold<F: Field>(l: &[F::Packing], r: &[F::Packing], c: &[F]) -> F::Packing
     requires left { length l.now ≡ 4 }
     requires right { length r.now ≡ 4 }
     requires scalar { length c.now ≡ 4 }
 {
     let groups = F::dot4(l, r) + F::mixed_dot4(l, c);
-    groups + F::lanes_mul(l[0], r[0]) + F::lanes_scale(l[0], c[0])
+    let fixed = F::lanes_times_fixed(l[0], r[0]) + F::lanes_scale(l[0], c[0]);
+    groups + F::lanes_mul(l[0], r[0]) + fixed
 }
 
-/// 10 a b, by each product of a field.
+/// 11 a b, by each product of a field.
 fn packed_products<F: Field>(alloc: Global, a: F, b: F) -> Result<F::Packing, AllocError> {
     let left = filled(alloc, F::Packing::splat(a), 4)?;
     let right = filled(alloc, F::Packing::splat(b), 4)?;
     let scalars = filled(alloc, b, 4)?;
-    Ok(tenfold::<F>(left.as_slice(), right.as_slice(), scalars.as_slice()))
+    Ok(elevenfold::<F>(left.as_slice(), right.as_slice(), scalars.as_slice()))
 }
 
-/// Whether 10 a b, by each product of a field, is the answer in every lane.
+/// Whether 11 a b, by each product of a field, is the answer in every lane.
 pub fn multiplies_lanes<F: Field>(
     alloc: Global,
     a: F,

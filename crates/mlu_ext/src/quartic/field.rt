@@ -35,10 +35,14 @@ impl<const W: usize> Field for QuarticExtension<BabyBear<W>> {
         joined_powers(constant, linear, quadratic, cubic)
     }
 
-    // Tables multiply every entry by the same coordinate, so it is worth preparing.
-    #[inline(always)]
+    #[inline]
     fn lanes_mul(a: Lanes<Self, 1>, b: Lanes<Self, 1>) -> Lanes<Self, 1> {
-        Lanes::from_array([a.lane(0).times_fixed(b.lane(0))])
+        a * b
+    }
+
+    #[inline(always)]
+    fn lanes_times_fixed(p: Lanes<Self, 1>, factor: Lanes<Self, 1>) -> Lanes<Self, 1> {
+        Lanes::from_array([p.lane(0).times_fixed(factor.lane(0))])
     }
 }
 

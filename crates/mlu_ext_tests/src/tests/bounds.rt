@@ -161,7 +161,7 @@ fn ring_of_quartics(rt: HostRuntime) -> Result<(), Fail> {
         RingRow::ScaledByItself(a, cube, quartic(22, 33, 44, 1)),
         RingRow::Zeros,
         RingRow::Lanes(a, cube, quartic(2, 4, 6, 9)),
-        RingRow::PackedProducts(a, cube, quartic(220, 330, 440, 10)),
+        RingRow::PackedProducts(a, cube, quartic(242, 363, 484, 11)),
         RingRow::Bytes(16),
     ];
     for row in rows {
@@ -181,7 +181,7 @@ fn ring_of_pairs(rt: HostRuntime) -> Result<(), Fail> {
         RingRow::ScaledByItself(a, b, pair(3, 8)),
         RingRow::Zeros,
         RingRow::Lanes(a, b, pair(5, 8)),
-        RingRow::PackedProducts(a, b, pair(30, 80)),
+        RingRow::PackedProducts(a, b, pair(33, 88)),
         RingRow::Bytes(8),
     ];
     for row in rows {

@@ -4,7 +4,10 @@ ghost use Rattle.mlu_lanes.specs.BabyBear.{baby_bear_ring};
 
 use super::BabyBear;
 use super::montgomery::{prepared, prepared_word};
-use super::packed::{prepared_reduced, product_reduced, products, scaled, sum_reduced};
+use super::packed::{
+    prepared_reduced, product_reduced, products, scaled, scaled_each, sum_reduced,
+};
+use super::reduce_each::{FOLD, reduce_each_product};
 use crate::lanes::{LaneWidth, Lanes};
 use crate::words::wide_sums;
 use mlu_ring::{Field, Lanewise};
@@ -35,7 +38,14 @@ where
         product_reduced(products(&a, &b))
     }
 
-    // The compiler prepares an element that stays the same in a loop once.
+    // The compiler prepares a factor that stays the same in a loop once.
+    #[inline(always)]
+    fn lanes_times_fixed(p: Lanes<Self, W>, factor: Lanes<Self, W>) -> Lanes<Self, W> {
+        let prepared = reduce_each_product(scaled(&factor, FOLD as u32));
+        prepared_reduced(scaled_each(&p, prepared))
+    }
+
+    // As in `lanes_times_fixed`.
     #[inline(always)]
     fn lanes_scale(p: Lanes<Self, W>, c: Self) -> Lanes<Self, W> {
         prepared_reduced(scaled(&p, prepared_word(c.value)))
@@ -48,7 +58,7 @@ where
         sum_reduced(wide_sums(low, high))
     }
 
-    // As in `lanes_scale`.
+    // As in `lanes_times_fixed`.
     #[inline(always)]
     fn mixed_dot4(p: &[Lanes<Self, W>], c: &[Self]) -> Lanes<Self, W> {
         let factors = prepared(&(c[0], c[1], c[2], c[3]));

@@ -28,7 +28,17 @@ pub fn scaled<const W: usize>(p: &Lanes<BabyBear<W>, W>, factor: u32) -> Simd<u6
     ensures value { (j : ℕ) → j < W → slice_index result j ≡ residue p.now j * factor }
     ensures least { (j : ℕ) → j < W → slice_index result j < MODULUS * MODULUS }
 {
-    residue_products(words_of(p), all(factor))
+    scaled_each(p, all(factor))
+}
+
+/// The products with residues lane by lane, unreduced: four of them add up to a word.
+#[inline]
+pub fn scaled_each<const W: usize>(p: &Lanes<BabyBear<W>, W>, factors: Simd<u32, W>) -> Simd<u64, W>
+    requires { (j : ℕ) → j < W → slice_index factors j < MODULUS }
+    ensures value { (j : ℕ) → j < W → slice_index result j ≡ residue p.now j * slice_index factors.entry j }
+    ensures least { (j : ℕ) → j < W → slice_index result j < MODULUS * MODULUS }
+{
+    residue_products(words_of(p), factors)
 }
 
 /// The packed value of words below 2^62, as products are.

@@ -87,14 +87,17 @@ where
 
     ghost of_lanes = { packed_of W F.ZERO };
 
+    // The compiler makes one load of the loop, and copies a slice by way of memory.
     #[inline]
     fn load(values: &[F]) -> Self {
         let mut lanes = [F::ZERO; W];
-        lanes.copy_from_slice(values);
+        for k in 0..W {
+            lanes[k] = values[k];
+        }
         Lanes { values: lanes }
     }
 
-    // The compiler makes one store of the loop, and copies a slice by way of memory.
+    // As in `load`.
     #[inline]
     fn store(&self, out: &mut [F]) {
         for k in 0..W {

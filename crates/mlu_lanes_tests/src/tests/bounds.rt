@@ -68,7 +68,7 @@ fn holds<F: Field, EF: ExtensionField<F>>(alloc: Global, row: Row) -> Result<boo
         Row::Reloaded => reloads::<F>(alloc),
         Row::Lanes => Ok(doubles_and_adds::<F>(element(1), element(3), element(5))),
         Row::Bytes(bytes) => Ok(F::bytes() == bytes),
-        Row::PackedProducts => multiplies_lanes::<F>(alloc, element(5), element(3), element(150)),
+        Row::PackedProducts => multiplies_lanes::<F>(alloc, element(5), element(3), element(165)),
         Row::FourSquares => squares_lanes::<F>(alloc),
         Row::Counted => Ok(counts::<F>()),
         Row::Doubled => Ok(doubles::<F, EF>(element(3), element(6))),
