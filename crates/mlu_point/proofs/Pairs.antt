@@ -105,6 +105,14 @@ module _ {R : Type 0} (ring : Ring R) (laws : RingLaws ring) where
   abbrev four : Ring ((R × R) × (R × R))
   four = pair_ring (pair_ring ring)
 
+  -- the first four
+  pub fours_first : (xs : List R) (a b c d : R) → 4 ≤ length xs
+      → a ≡ get_or xs 0 a → b ≡ get_or xs 1 b → c ≡ get_or xs 2 c → d ≡ get_or xs 3 d
+      → four.sum ((a, b), (c, d)) (sum_of four (drop 1 (pairs (pairs xs)))) ≡ sum_of four (pairs (pairs xs))
+  fours_first (p ∷ q ∷ u ∷ v ∷ xs) a b c d long at_a at_b at_c at_d =
+      λ j. four.sum ((at_a j, at_b j), (at_c j, at_d j)) (sum_of four (pairs (pairs xs)))
+  fours_first xs a b c d long at_a at_b at_c at_d = absurd (omega arith)
+
   -- the sum of the fours before i, and of the one at i
   pub fours_more : (xs : List R) (n i : ℕ) (a b c d p q u v s t w x : R) → length xs ≡ 4 * n → i < n
       → p ≡ get_or xs (4 * i) p → q ≡ get_or xs (4 * i + 1) q → u ≡ get_or xs (4 * i + 2) u → v ≡ get_or xs (4 * i + 3) v

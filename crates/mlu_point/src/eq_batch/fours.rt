@@ -52,13 +52,14 @@ fn split_four<C: Additive, S: PrimeCharacteristicRing, E: EqualityEvaluator<C, S
     }
 }
 
-/// The shares added up.
+/// The shares added up, from the first on.
 pub(super) fn sum_of_fours<S: Additive>(shares: &[S]) -> (S, S, S, S)
-    requires { length shares.now % 4 ≡ 0 }
+    requires fours { length shares.now % 4 ≡ 0 }
+    requires some { 0 < length shares.now }
     ensures { ((result.0, result.1), (result.2, result.3)) ≡ sum_of (pair_ring (pair_ring S.ring)) (pairs (pairs shares.now)) }
 {
-    let mut sums = (S::ZERO, S::ZERO, S::ZERO, S::ZERO);
-    for i in 0..shares.len() / FOUR {
+    let mut sums = (shares[0], shares[1], shares[2], shares[3]);
+    for i in 1..shares.len() / FOUR {
         let k = FOUR * i;
         sums = (
             sums.0 + shares[k],
