@@ -45,7 +45,7 @@ pub(crate) fn compress_by_four<F: Field, EF: ExtensionField<F>>(
     requires rows { length chunk.now ≡ length eq1.now * (F.Packing.WIDTH * (length out.old * F.Packing.WIDTH)) }
     requires fours { F.Packing.WIDTH % 4 ≡ 0 }
     requires small { (type_size F.row < SMALL_BYTES) × (type_size F.Packing.row < SMALL_BYTES) × (type_size EF.row < SMALL_BYTES) }
-    ensures { logical EF.ExtensionPacking.ext_lanes out.new
+    ensures sum { logical EF.ExtensionPacking.ext_lanes out.new
         ≡ plus_rows EF.ring (logical EF.ExtensionPacking.ext_lanes out.old)
         (map (EF.ring.product w0) (logical EF.ExtensionPacking.ext_lanes eq1.now)) (map EF.embed chunk.now) }
 {

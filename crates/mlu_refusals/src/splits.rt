@@ -18,6 +18,8 @@ use std::test::Fail;
 pub enum Call {
     NewUnpacked,
     NewPacked,
+    PackedTryClone,
+    PackedCloneHalf,
     AccumulateIntoPacked,
     CompressPrefixToPacked,
     EvalPacked,
@@ -45,6 +47,8 @@ pub fn made<F: Field, EF: ExtensionField<F>>(
     match call {
         Call::NewUnpacked => Ok(judge(new_unpacked::<F, EF>(alloc, &point), true)),
         Call::NewPacked => Ok(judge(new_packed::<F, EF>(alloc, &point), true)),
+        Call::PackedTryClone => packed_copy::<F, EF>(alloc, &point, false),
+        Call::PackedCloneHalf => packed_copy::<F, EF>(alloc, &point, true),
         Call::AccumulateIntoPacked => accumulate_into_packed::<F, EF>(alloc, &point),
         Call::CompressPrefixToPacked => prefix_to_packed::<F, EF>(alloc),
         Call::EvalPacked => eval_packed::<F, EF>(alloc, &point),
@@ -198,6 +202,24 @@ fn clone_half<F: Field, EF: ExtensionField<F>>(
     Ok(split.eq1().try_clone(alloc)?.last_scalar() == element(15))
 }
 
+/// A copy of a table with packed weights, or of its second half.
+fn packed_copy<F: Field, EF: ExtensionField<F>>(
+    alloc: Global,
+    point: &Point<EF>,
+    is_half: bool,
+) -> Result<Outcome, AllocError>
+    requires { length point.now ≡ 3 }
+{
+    let mut zeros = EF::zero_vec(alloc, 8)?;
+    let split = packed_split::<F, EF>(alloc, point)?;
+    let answered = if is_half {
+        clone_half(alloc, &split)
+    } else {
+        try_clone(alloc, &split)
+    };
+    Ok(judge(answered, has_weights(&split, zeros.as_mut_slice())))
+}
+
 /// A conversion of scalars or of packed weights, with its table.
 pub fn converted<F: Field, EF: ExtensionField<F>, R: ExtensionField<R> + MapFrom<EF>>(
     alloc: Global,
@@ -304,6 +326,24 @@ fn copied_half(rt: HostRuntime) -> Result<(), Fail> {
         &rt,
         "EqMaybePacked::try_clone",
         AnyCall::Split(Call::Beside(PolyCall::CloneHalf)),
+    )
+}
+
+#[test]
+fn copied_lanes(rt: HostRuntime) -> Result<(), Fail> {
+    tried(
+        &rt,
+        "SplitEq::try_clone of packed weights",
+        AnyCall::Split(Call::PackedTryClone),
+    )
+}
+
+#[test]
+fn copied_half_of_lanes(rt: HostRuntime) -> Result<(), Fail> {
+    tried(
+        &rt,
+        "EqMaybePacked::try_clone of packed weights",
+        AnyCall::Split(Call::PackedCloneHalf),
     )
 }
 

@@ -166,7 +166,8 @@ fn add_border<F: Field, EF: ExtensionField<F>>(
 }
 
 /// Adds the rows of `entries` to `out`, each times its weight, in runs of `run_length` entries of
-/// `eq0`, the last one perhaps shorter. What the accumulator held does not count.
+/// `eq0`, the last one perhaps shorter. What the accumulator held does not count, and what it then
+/// holds is not promised.
 ///
 /// Asks for halves and runs that are not empty, for an accumulator as long as `out`, and for as many
 /// rows as the split table has entries.

@@ -5,7 +5,7 @@ ghost use Rattle.mlu_lanes.specs.BabyBear.{baby_bear_ring};
 use super::BabyBear;
 use super::montgomery::{prepared, prepared_word};
 use super::packed::{
-    prepared_reduced, product_reduced, products, scaled, scaled_each, sum_reduced,
+    prepared_product, prepared_reduced, product_reduced, products, scaled, scaled_each, sum_reduced,
 };
 use super::reduce_each::{FOLD, reduce_each_product};
 use crate::lanes::{LaneWidth, Lanes};
@@ -42,13 +42,13 @@ where
     #[inline(always)]
     fn lanes_times_fixed(p: Lanes<Self, W>, factor: Lanes<Self, W>) -> Lanes<Self, W> {
         let prepared = reduce_each_product(scaled(&factor, FOLD as u32));
-        prepared_reduced(scaled_each(&p, prepared))
+        prepared_product(scaled_each(&p, prepared))
     }
 
     // As in `lanes_times_fixed`.
     #[inline(always)]
     fn lanes_scale(p: Lanes<Self, W>, c: Self) -> Lanes<Self, W> {
-        prepared_reduced(scaled(&p, prepared_word(c.value)))
+        prepared_product(scaled(&p, prepared_word(c.value)))
     }
 
     #[inline(always)]

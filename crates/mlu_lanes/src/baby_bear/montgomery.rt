@@ -89,6 +89,17 @@ pub fn reduce_prepared<const W: usize>(words: Simd<u64, W>) -> Simd<u32, W>
     residue_differences(upper_residues(words), carried(low_quotients(words)))
 }
 
+/// The same of products of two residues, whose upper halves are residues.
+#[inline]
+pub fn reduce_prepared_products<const W: usize>(words: Simd<u64, W>) -> Simd<u32, W>
+    requires { (j : ℕ) → j < W → slice_index words j < MODULUS * MODULUS }
+    ensures least { (j : ℕ) → j < W → slice_index result j < MODULUS }
+    ensures value { (j : ℕ) → j < W → slice_index result j * 2 ^ 32 % MODULUS ≡ slice_index words.entry j % MODULUS }
+{
+    let upper = narrowed(shifted_right(words, 32));
+    residue_differences(upper, carried(low_quotients(words)))
+}
+
 /// The multiples of the modulus that have the lower halves of the lanes, over the modulus.
 #[inline]
 fn low_quotients<const W: usize>(words: Simd<u64, W>) -> Simd<u64, W>

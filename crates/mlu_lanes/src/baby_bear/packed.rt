@@ -2,7 +2,7 @@
 ghost use Rattle.std.specs.Prelude.{◌≡◌, ℕ, ◌*◌, ◌%◌, ◌^◌, ◌<◌, slice_index};
 ghost use Rattle.mlu_lanes.specs.Packed.{residue};
 
-use super::montgomery::reduce_prepared;
+use super::montgomery::{reduce_prepared, reduce_prepared_products};
 use super::reduce_each::{reduce_each_product, reduce_each_word};
 use super::{BabyBear, MODULUS};
 use crate::lanes::Lanes;
@@ -67,6 +67,15 @@ pub fn prepared_reduced<const W: usize>(words: Simd<u64, W>) -> Lanes<BabyBear<W
     ensures { (j : ℕ) → j < W → residue result j * 2 ^ 32 % MODULUS ≡ slice_index words.entry j % MODULUS }
 {
     lanes_of(reduce_prepared(words))
+}
+
+/// The same of products of two residues.
+#[inline]
+pub fn prepared_product<const W: usize>(words: Simd<u64, W>) -> Lanes<BabyBear<W>, W>
+    requires { (j : ℕ) → j < W → slice_index words j < MODULUS * MODULUS }
+    ensures { (j : ℕ) → j < W → residue result j * 2 ^ 32 % MODULUS ≡ slice_index words.entry j % MODULUS }
+{
+    lanes_of(reduce_prepared_products(words))
 }
 
 /// The products of residues lane by lane, unreduced: four of them add up to a word.

@@ -75,20 +75,24 @@ pub fn counted_tables<R: Field>(alloc: Global) -> Result<bool, AllocError> {
     Ok(true)
 }
 
-/// A table with a scale in two chunks, one of no coordinate, and one whose products are not shown.
-pub fn chunks<R: Field>(alloc: Global) -> Result<bool, AllocError> {
+/// The table of (2, 3) with scale 5, at once and in two chunks, and six products.
+fn scaled<R: Field>(alloc: Global, order: BitOrder, weights: &[i32]) -> Result<bool, AllocError> {
     let point: Point<R> = Point::new(elements(alloc, &[2, 3])?);
-    let mut out: Vec<R> = elements(alloc, &[9, 9, 9, 9])?;
+    let mut serial: Vec<R> = elements(alloc, &[9, 9, 9, 9])?;
+    let mut chunks: Vec<R> = elements(alloc, &[9, 9, 9, 9])?;
     let mut meter = Counter::new();
-    point.fill_equality_table_in_chunks(
-        alloc,
-        out.as_mut_slice(),
-        BitOrder::Msb,
-        element(5),
-        1,
-        &mut meter,
-    )?;
-    let two = are(&out, &[10, -15, -20, 30]) && meter.made() == 3 && meter.groups() == 0;
+    let (at_once, in_two) = (serial.as_mut_slice(), chunks.as_mut_slice());
+    point.fill_equality_table_serial(at_once, order, element(5), &mut meter);
+    point.fill_equality_table_in_chunks(alloc, in_two, order, element(5), 1, &mut meter)?;
+    let both = are(&serial, weights) && are(&chunks, weights);
+    Ok(both && meter.made() == 6 && meter.groups() == 0)
+}
+
+/// Tables with a scale, one of no coordinate, and one whose products are not shown.
+pub fn chunks<R: Field>(alloc: Global) -> Result<bool, AllocError> {
+    let two = scaled::<R>(alloc, BitOrder::Msb, &[10, -15, -20, 30])?
+        && scaled::<R>(alloc, BitOrder::Lsb, &[10, -20, -15, 30])?;
+    let point: Point<R> = Point::new(elements(alloc, &[2, 3])?);
     let none: PointView<'_, R> = PointView::new(&[]);
     let mut meter = Counter::new();
     let one = are(

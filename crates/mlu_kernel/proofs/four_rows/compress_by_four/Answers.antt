@@ -42,5 +42,7 @@ pub returns : goal.returns
 returns g c =
     let ring = g.EF.Additive.ring in
     let lanes = g.EF.ExtensionPacking.PackedFieldExtension.ext_lanes in
-    c.loop-i.invariant
-    ∙ ap (λ ps. plus_rows ring (logical lanes c.args.out.now) (map (ring.product c.args.w0) (logical lanes ps)) (map g.EF.Algebra.embed c.args.chunk.now)) (take_all c.loop-i.i c.args.eq1.now c.loop-i-test.false)
+    record {
+      sum = c.loop-i.invariant
+          ∙ ap (λ ps. plus_rows ring (logical lanes c.args.out.now) (map (ring.product c.args.w0) (logical lanes ps)) (map g.EF.Algebra.embed c.args.chunk.now)) (take_all c.loop-i.i c.args.eq1.now c.loop-i-test.false);
+    }

@@ -5,5 +5,5 @@ use Rattle.mlu_lanes.proofs.baby_bear.field.BabyBearField.lanes_scale.Goals as g
 
 pub returns : goal.returns
 returns g c =
-    product_of_prepared c.args.p c.prepared_reduced.result c.args.c c.prepared_word.result c.prepared_word.ensures.value (λ j below.
-    c.prepared_reduced.ensures j below ∙ ap (λ n. n % MODULUS) (c.scaled.ensures.value j below))
+    product_of_prepared c.args.p c.prepared_product.result c.args.c c.prepared_word.result c.prepared_word.ensures.value (λ j below.
+    c.prepared_product.ensures j below ∙ ap (λ n. n % MODULUS) (c.scaled.ensures.value j below))

@@ -4,8 +4,8 @@ use Rattle.mlu_lanes.proofs.baby_bear.field.BabyBearField.lanes_times_fixed.Goal
 
 pub returns : goal.returns
 returns g c =
-    product_of_prepared_lanes c.args.p c.args.factor c.prepared_reduced.result (λ j below.
-    let residue = c.prepared_reduced.ensures j below in
+    product_of_prepared_lanes c.args.p c.args.factor c.prepared_product.result (λ j below.
+    let residue = c.prepared_product.ensures j below in
     let product = c.scaled_each.ensures.value j below in
     let prepared = c.reduce_each_product-prepared.ensures j below in
     let factor = c.scaled.ensures.value j below in
