@@ -1,4 +1,4 @@
-//! Worked rows, and drawn tables against the plain sums.
+//! Worked rows, and both forms of the kernels at many lengths, widths and dimensions.
 ghost use Rattle.std.specs.Prelude.{◌≡◌, ◌<◌, ◌*◌, IfOk, length};
 
 use crate::both_forms::{both_forms_agree, both_forms_agree_at_few};
@@ -11,14 +11,11 @@ use mlu_kernel::{
 };
 use mlu_lanes::{BabyBear, LaneWidth, Lanes};
 use mlu_ring::{
-    Additive, Algebra, ExtensionField, Field, Lanewise, PackedFieldExtension, PackedValue, Sample,
-    packed_of_four, scale_by_base, scale_by_packing, scale_packing,
+    ExtensionField, Field, Lanewise, PackedFieldExtension, PackedValue, PrimeCharacteristicRing,
+    Sample, packed_of_four, scale_by_base, scale_by_packing, scale_packing,
 };
-use mlu_test_support::draws::drawn;
 use mlu_test_support::lanes::packed;
 use mlu_test_support::numbers::{element, elements};
-use mlu_test_support::plain::{add_rows, dot, images, split_table};
-use rand_pcg::Pcg32;
 use std::alloc::{AllocError, Global};
 use std::test::Fail;
 
@@ -27,8 +24,6 @@ enum Row {
     TwoRows,
     OneRow,
     FourRows,
-    NoRow,
-    PlainSums,
     BothForms,
     BothFormsAtFew,
 }
@@ -44,8 +39,6 @@ fn holds<F: Field + Sample, EF: ExtensionField<F> + Sample>(
         Row::TwoRows => dot_of_two_rows::<F, EF>(alloc),
         Row::OneRow => lanes_of_one_row::<F, EF>(alloc),
         Row::FourRows => four_rows_added::<F, EF>(alloc),
-        Row::NoRow => dot_of_no_row::<F, EF>(alloc),
-        Row::PlainSums => kernels_agree::<F, EF>(alloc),
         Row::BothForms => both_forms_agree::<F, EF>(alloc),
         Row::BothFormsAtFew => both_forms_agree_at_few::<F, EF>(alloc),
     }
@@ -109,9 +102,6 @@ fn worked_dots(rt: HostRuntime) -> Result<(), Fail> {
     assert!(rt; quartics::<4>(rt.alloc(), Row::TwoRows)?);
     assert!(rt; residues::<4>(rt.alloc(), Row::OneRow)?);
     assert!(rt; quartics::<4>(rt.alloc(), Row::OneRow)?);
-    assert!(rt; residues::<4>(rt.alloc(), Row::NoRow)?);
-    assert!(rt; quartics::<4>(rt.alloc(), Row::NoRow)?);
-    assert!(rt; nine_copies::<4>(rt.alloc(), Row::NoRow)?);
     Ok(())
 }
 
@@ -119,24 +109,6 @@ fn worked_dots(rt: HostRuntime) -> Result<(), Fail> {
 fn worked_rows_added(rt: HostRuntime) -> Result<(), Fail> {
     assert!(rt; residues::<4>(rt.alloc(), Row::FourRows)?);
     assert!(rt; quartics::<4>(rt.alloc(), Row::FourRows)?);
-    Ok(())
-}
-
-#[test]
-fn plain_sums_over_the_field(rt: HostRuntime) -> Result<(), Fail> {
-    assert!(rt; residues::<1>(rt.alloc(), Row::PlainSums)?);
-    assert!(rt; residues::<2>(rt.alloc(), Row::PlainSums)?);
-    assert!(rt; residues::<4>(rt.alloc(), Row::PlainSums)?);
-    assert!(rt; residues::<8>(rt.alloc(), Row::PlainSums)?);
-    Ok(())
-}
-
-#[test]
-fn plain_sums_over_the_quartic(rt: HostRuntime) -> Result<(), Fail> {
-    assert!(rt; quartics::<1>(rt.alloc(), Row::PlainSums)?);
-    assert!(rt; quartics::<2>(rt.alloc(), Row::PlainSums)?);
-    assert!(rt; quartics::<4>(rt.alloc(), Row::PlainSums)?);
-    assert!(rt; quartics::<8>(rt.alloc(), Row::PlainSums)?);
     Ok(())
 }
 
@@ -266,107 +238,4 @@ fn four_rows_added<F: Field, EF: ExtensionField<F>>(alloc: Global) -> Result<boo
     )?;
     let expected = packed::<F, EF>(alloc, &elements(alloc, &[49, 58, 67, 76])?, 1)?;
     rows_added_are::<F, EF>(alloc, &out, &eq1, &chunk, EF::TWO, &expected)
-}
-
-/// Whether the dot with two rows of no weights is zero.
-fn dot_of_no_row<F: Field, EF: ExtensionField<F>>(alloc: Global) -> Result<bool, AllocError> {
-    let eq0 = elements(alloc, &[0, 0])?;
-    Ok(dots_are::<F, EF>(&[], &[], &eq0, EF::ZERO))
-}
-
-/// The sum over `j` and `i` of `eq0[j] * weights[i] * chunk[j * weights.len() + i]`.
-fn plain_dot<F: Additive, EF: Algebra<F>>(
-    alloc: Global,
-    weights: &[EF],
-    chunk: &[F],
-    eq0: &[EF],
-) -> Result<EF, AllocError>
-    requires weights { length weights.now < 256 }
-    requires rows { length eq0.now < 256 }
-{
-    let whole = split_table(alloc, eq0, weights)?;
-    Ok(dot(&whole, &images::<F, EF>(alloc, chunk)?))
-}
-
-/// The entries, and added to each entry `z` the sum over `i` of
-/// `scale[0] * weights[i] * chunk[i * entries.len() + z]`.
-fn plain_prefix<F: Additive, EF: Algebra<F>>(
-    alloc: Global,
-    entries: &[EF],
-    weights: &[EF],
-    chunk: &[F],
-    scale: &[EF],
-) -> Result<Vec<EF>, AllocError>
-    requires chunk { length chunk.now ≡ length weights.now * length entries.now }
-    requires weights { length weights.now < 256 }
-    requires scale { length scale.now ≡ 1 }
-    ensures { IfOk result (λ sums. length sums.items ≡ length entries.now) }
-{
-    let scaled = split_table(alloc, scale, weights)?;
-    let mut sums = Vec::from_slice(alloc, entries)?;
-    add_rows(&mut sums, &scaled, &images::<F, EF>(alloc, chunk)?);
-    Ok(sums)
-}
-
-/// Whether both forms of the dot give the plain sum, for `n` packed weights and `rows` rows.
-fn dots_agree<F: Field + Sample, EF: ExtensionField<F> + Sample>(
-    alloc: Global,
-    rng: &mut Pcg32,
-    n: usize,
-    rows: usize,
-) -> Result<bool, AllocError>
-    requires weights { n < 8 }
-    requires rows { rows < 8 }
-    requires lanes { F.Packing.WIDTH < 32 }
-{
-    let row_length = n * F::Packing::WIDTH;
-    let weights = drawn::<EF>(alloc, rng, row_length)?;
-    let chunk = drawn::<F>(alloc, rng, rows * row_length)?;
-    let eq0 = drawn::<EF>(alloc, rng, rows)?;
-    let eq1 = packed::<F, EF>(alloc, &weights, n)?;
-    let sum = plain_dot(alloc, &weights, &chunk, &eq0)?;
-    Ok(dots_are::<F, EF>(&eq1, &chunk, &eq0, sum))
-}
-
-/// Whether both forms of the prefix kernel add the plain sums, for `n` packed weights and
-/// `positions` packed outputs.
-fn prefixes_agree<F: Field + Sample, EF: ExtensionField<F> + Sample>(
-    alloc: Global,
-    rng: &mut Pcg32,
-    n: usize,
-    positions: usize,
-) -> Result<bool, AllocError>
-    requires weights { n < 8 }
-    requires positions { positions < 8 }
-    requires lanes { F.Packing.WIDTH < 32 }
-{
-    let width = F::Packing::WIDTH;
-    let weights = drawn::<EF>(alloc, rng, n * width)?;
-    let entries = drawn::<EF>(alloc, rng, positions * width)?;
-    let chunk = drawn::<F>(alloc, rng, n * (width * (positions * width)))?;
-    let scale = drawn::<EF>(alloc, rng, 1)?;
-    let sums = plain_prefix(alloc, &entries, &weights, &chunk, &scale)?;
-    let expected = packed::<F, EF>(alloc, &sums, positions)?;
-    let out = packed::<F, EF>(alloc, &entries, positions)?;
-    let eq1 = packed::<F, EF>(alloc, &weights, n)?;
-    rows_added_are::<F, EF>(alloc, &out, &eq1, &chunk, scale[0], &expected)
-}
-
-/// Whether the kernels give the plain sums for all small shapes, the empty ones too.
-fn kernels_agree<F: Field + Sample, EF: ExtensionField<F> + Sample>(
-    alloc: Global,
-) -> Result<bool, AllocError>
-    requires { F.Packing.WIDTH < 32 }
-{
-    let mut rng = Pcg32::new(1, 54);
-    for n in 0..4 {
-        for m in 0..4 {
-            if !dots_agree::<F, EF>(alloc, &mut rng, n, m)?
-                || !prefixes_agree::<F, EF>(alloc, &mut rng, n, m)?
-            {
-                return Ok(false);
-            }
-        }
-    }
-    Ok(true)
 }
