@@ -1,8 +1,9 @@
-//! Worked values, a call of each item through its bound, and what `{:?}` prints.
-mod bounds;
+//! Worked values, calls of each item at each ring, and what `{:?}` prints.
+mod counted;
 mod dots;
 mod products;
-mod rows;
+mod quartics;
+mod rings;
 mod texts;
 
 use mlu_ext::{ProductAlgebra, QuarticExtension};

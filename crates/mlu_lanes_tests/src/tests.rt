@@ -1,4 +1,15 @@
-//! Worked values, one call of each item through its bound, and what `{:?}` prints.
+//! Worked values, calls of each item at each ring, and what `{:?}` prints.
 mod bounds;
+mod packed;
 mod rows;
 mod texts;
+
+use mlu_lanes::{BabyBear, Lanes, WrappingU64};
+
+type Bear = BabyBear<4>;
+
+type Bears = Lanes<Bear, 4>;
+
+type Word = WrappingU64<2>;
+
+type Words = Lanes<Word, 2>;

@@ -1,12 +1,6 @@
-//! A call of each item of a trait through its bound.
-ghost use Rattle.std.specs.Prelude.{◌≡◌, ◌<◌, length};
-
-use crate::lists::{filled, pair};
+//! A call of each item of a ring through its bound.
 use crate::numbers::{are, elements};
-use mlu_ring::{
-    Additive, Algebra, ExtensionField, Field, Lanewise, MapFrom, PackedFieldExtension, PackedValue,
-    PrimeCharacteristicRing, RingMapFrom, SelfAlgebra,
-};
+use mlu_ring::{Additive, PrimeCharacteristicRing, RingMapFrom};
 use std::alloc::{AllocError, Global};
 
 /// 2 (a + b) + b + 1
@@ -68,130 +62,7 @@ pub fn gives_zeros<R: PrimeCharacteristicRing>(alloc: Global) -> Result<bool, Al
     Ok(are(zeros.as_slice(), &[0, 0, 0]))
 }
 
-/// a b + 2 b
-pub fn scaled<B: Additive, A: Algebra<B>>(a: A, b: B) -> A {
-    a.scale(b).plus(b) + A::from_base(b)
-}
-
-/// a b
-pub fn scaled_by_itself<R: SelfAlgebra>(a: R, b: R) -> R {
-    a.scale(b)
-}
-
-/// The image of `x`.
-pub fn mapped<A: Additive, B: MapFrom<A>>(x: A) -> B {
-    B::map(x)
-}
-
 /// The image of `x` under a map of rings.
 pub fn ring_mapped<A: Additive, B: RingMapFrom<A>>(x: A) -> B {
     B::map(x)
-}
-
-/// Whether 2 a + b, by lanes, has `sum` as its first lane.
-pub fn doubles_and_adds<F: Lanewise>(a: F, b: F, sum: F) -> bool {
-    if F::Packing::WIDTH == 0 {
-        return false;
-    }
-    let a = F::Packing::splat(a);
-    (a + a + F::Packing::splat(b)).lane(0) == sum
-}
-
-/// 11 a b, where each of `l` is a and each of `r` and `c` is b.
-fn elevenfold<F: Field>(l: &[F::Packing], r: &[F::Packing], c: &[F]) -> F::Packing
-    requires left { length l.now ≡ 4 }
-    requires right { length r.now ≡ 4 }
-    requires scalar { length c.now ≡ 4 }
-{
-    let groups = F::dot4(l, r) + F::mixed_dot4(l, c);
-    let fixed = F::lanes_times_fixed(l[0], r[0]) + F::lanes_scale(l[0], c[0]);
-    groups + F::lanes_mul(l[0], r[0]) + fixed
-}
-
-/// 11 a b, by each product of a field.
-fn packed_products<F: Field>(alloc: Global, a: F, b: F) -> Result<F::Packing, AllocError> {
-    let left = filled(alloc, F::Packing::splat(a), 4)?;
-    let right = filled(alloc, F::Packing::splat(b), 4)?;
-    let scalars = filled(alloc, b, 4)?;
-    Ok(elevenfold::<F>(left.as_slice(), right.as_slice(), scalars.as_slice()))
-}
-
-/// Whether 11 a b, by each product of a field, is the answer in every lane.
-pub fn multiplies_lanes<F: Field>(
-    alloc: Global,
-    a: F,
-    b: F,
-    answer: F,
-) -> Result<bool, AllocError> {
-    Ok(packed_products(alloc, a, b)? == F::Packing::splat(answer))
-}
-
-/// Whether the first of the coefficients `c` is `twice` once it is doubled.
-pub fn doubles<F: Field, EF: ExtensionField<F>>(c: F, twice: F) -> bool {
-    if EF::DIMENSION == 0 {
-        return false;
-    }
-    let mut element = EF::from_coefficients_fn(|_k| c);
-    let first = element.coefficient(0).double();
-    element.set_coefficient(0, first);
-    element.coefficient(0) == twice
-}
-
-/// The first lane, with its first coefficient doubled; `out` has all lanes of it.
-fn doubled_lanes<F: Field, EF: ExtensionField<F>>(values: &[EF], out: &mut [EF]) -> EF
-    requires coefficients { 0 < EF.DIMENSION }
-    requires lanes { 0 < F.Packing.WIDTH }
-    requires read { length values.now ≡ F.Packing.WIDTH }
-    requires written { length out.old ≡ F.Packing.WIDTH }
-{
-    let mut packed = EF::ExtensionPacking::from_ext_slice(values);
-    let first = packed.packed_coefficient(0).double();
-    packed.set_packed_coefficient(0, first);
-    packed.store_ext(out);
-    packed.ext_lane(0)
-}
-
-/// Whether lanes of `a` are lanes of `twice` once their first coefficient is doubled.
-pub fn doubles_lanes<F: Field, EF: ExtensionField<F>>(
-    alloc: Global,
-    a: EF,
-    twice: EF,
-) -> Result<bool, AllocError> {
-    if EF::DIMENSION == 0 || F::Packing::WIDTH == 0 {
-        return Ok(false);
-    }
-    let values = filled(alloc, a, F::Packing::WIDTH)?;
-    let mut out = filled(alloc, EF::ZERO, F::Packing::WIDTH)?;
-    let first = doubled_lanes::<F, EF>(values.as_slice(), out.as_mut_slice());
-    Ok(first == twice && out.iter().all(|lane| *lane == twice))
-}
-
-/// Whether the packed element with the coefficients `c` has the element with them in each lane.
-pub fn packs_coefficients<F: Field, EF: ExtensionField<F>>(c: F) -> bool {
-    let lanes = F::Packing::splat(c);
-    let element = EF::from_coefficients_fn(|_k| c);
-    let packed = EF::ExtensionPacking::from_packed_coefficients_fn(|_k| lanes);
-    packed == EF::ExtensionPacking::from_base(element)
-}
-
-/// The lanes of all values, added up.
-pub fn sum_of_lanes<F: Field, EF: ExtensionField<F>>(packed: &[EF::ExtensionPacking]) -> EF {
-    let mut sum = EF::ZERO;
-    for element in EF::ExtensionPacking::to_ext_iter(packed) {
-        sum = sum + element;
-    }
-    sum
-}
-
-/// Whether the lanes of two packed values, each with the same element in every lane, have this sum.
-pub fn adds_lanes<F: Field, EF: ExtensionField<F>>(
-    alloc: Global,
-    first: EF,
-    second: EF,
-    sum: EF,
-) -> Result<bool, AllocError> {
-    let first = EF::ExtensionPacking::from_base(first);
-    let second = EF::ExtensionPacking::from_base(second);
-    let packed = pair(alloc, first, second)?;
-    Ok(sum_of_lanes::<F, EF>(packed.as_slice()) == sum)
 }

@@ -1,132 +1,107 @@
-//! Calls at products of copies of a ring.
-//!
-//! Through the bound `ExtensionField` by a function whose bound names the field, since a call with
-//! two types as parameters is more than the prover takes here; over another field, and over
-//! themselves, products are called directly.
-use super::bounds::{Row, holds};
+//! Calls at products of copies of a ring: over their ring, over themselves, and in lanes.
 use super::{Bear, NarrowBear, Pair, pair};
 use mlu_ext::ProductAlgebra;
 use mlu_lanes::Lanes;
 use mlu_ring::{
-    Additive, Algebra, ExtensionField, PackedFieldExtension, PackedValue, PrimeCharacteristicRing,
+    Additive, Algebra, ExtensionField, Field, PackedFieldExtension, PackedValue,
+    PrimeCharacteristicRing, Sample,
 };
-use std::alloc::{AllocError, Global};
-use std::test::Fail;
+use mlu_test_support::bounds::ring_mapped;
+use rand_pcg::Pcg32;
 
 type PackedPair = ProductAlgebra<Lanes<NarrowBear, 2>, 2>;
 
-/// Whether the row holds over copies of residues.
-fn copies<EF: ExtensionField<Bear>>(alloc: Global, row: Row<Bear, EF>) -> Result<bool, AllocError> {
-    holds::<Bear, EF>(alloc, row)
+type TwoCopies = ProductAlgebra<Bear, 2>;
+
+#[test]
+fn copies_are_multiplied_one_by_one(rt: HostRuntime) {
+    let a = ProductAlgebra::from_array([Bear::from_u32(2), Bear::from_u32(3)]);
+    let b = ProductAlgebra::from_array([Bear::from_u32(5), Bear::from_u32(7)]);
+    assert!(rt; (a * b).to_array() == [10, 21].map(Bear::from_u32));
+    assert!(rt; a.scale(Bear::from_u32(4)).to_array() == [8, 12].map(Bear::from_u32));
 }
 
 #[test]
-fn no_copies_counted(rt: HostRuntime) -> Result<(), Fail> {
-    let none = ProductAlgebra::<Bear, 0>::from_array([]);
-    assert!(rt; copies(rt.alloc(), Row::Counted(none, none))?);
-    Ok(())
-}
-
-#[test]
-fn nine_copies_counted(rt: HostRuntime) -> Result<(), Fail> {
-    let numbers = [1, 2, 3, 4, 5, 6, 7, 8, 9].map(Bear::from_u32);
-    let sums = [20, 40, 60, 80, 100, 120, 140, 160, 180].map(Bear::from_u32);
-    let row = Row::Counted(
-        ProductAlgebra::from_array(numbers),
-        ProductAlgebra::from_array(sums),
-    );
-    assert!(rt; copies(rt.alloc(), row)?);
-    Ok(())
-}
-
-/// [`copies`] of two copies.
-fn two_copies(alloc: Global, row: Row<Bear, ProductAlgebra<Bear, 2>>) -> Result<bool, AllocError> {
-    copies(alloc, row)
-}
-
-#[test]
-fn two_copies_doubled(rt: HostRuntime) -> Result<(), Fail> {
+fn two_copies_doubled(rt: HostRuntime) {
     let [three, six] = [3, 6].map(Bear::from_u32);
-    let threes = ProductAlgebra::from_array([three, three]);
-    let first_doubled = ProductAlgebra::from_array([six, three]);
-    assert!(rt; two_copies(rt.alloc(), Row::Doubled(three, six))?);
-    assert!(rt; two_copies(rt.alloc(), Row::DoubledLanes(threes, first_doubled))?);
-    Ok(())
+    let mut element = TwoCopies::from_array([three, three]);
+    let mut packed = ProductAlgebra::<Lanes<Bear, 4>, 2>::from_ext_slice(&[element; 4]);
+    let first = <TwoCopies as ExtensionField<Bear>>::coefficient(&element, 0);
+    <TwoCopies as ExtensionField<Bear>>::set_coefficient(&mut element, 0, first + first);
+    assert!(rt; <TwoCopies as ExtensionField<Bear>>::coefficient(&element, 0) == six);
+    let first = packed.packed_coefficient(0);
+    packed.set_packed_coefficient(0, first + first);
+    let mut out = [TwoCopies::ZERO; 4];
+    packed.store_ext(&mut out);
+    assert!(rt; packed.ext_lane(0) == element);
+    assert!(rt; out == [element; 4]);
 }
 
 #[test]
 fn pair_coefficients(rt: HostRuntime) {
     let mut element = pair(2, 3);
     <Pair as ExtensionField<NarrowBear>>::set_coefficient(&mut element, 1, NarrowBear::ONE);
-    assert_eq!(rt; element, pair(2, 1));
-    assert_eq!(rt;
-        <Pair as ExtensionField<NarrowBear>>::coefficient(&element, 0),
-        NarrowBear::TWO
-    );
-    assert_eq!(rt; <Pair as ExtensionField<NarrowBear>>::DIMENSION, 2);
+    assert!(rt; element == pair(2, 1));
+    assert!(rt; <Pair as ExtensionField<NarrowBear>>::coefficient(&element, 0) == NarrowBear::TWO);
+    assert!(rt; <Pair as ExtensionField<NarrowBear>>::DIMENSION == 2);
+    let (a, five) = (pair(1, 2), NarrowBear::from_u32(5));
+    assert!(rt; a.scale(five).plus(five) + Pair::from_base(five) == pair(15, 20));
+    assert!(rt; ring_mapped::<NarrowBear, Pair>(five) == pair(5, 5));
 }
 
 #[test]
 fn pair_lanes(rt: HostRuntime) {
     let mut packed = PackedPair::from_ext_slice(&[pair(1, 2), pair(3, 4)]);
-    assert_eq!(rt;
-        packed.packed_coefficient(1),
-        Lanes::from_array([NarrowBear::from_u32(2), NarrowBear::from_u32(4)])
-    );
+    let second = Lanes::from_array([2, 4].map(NarrowBear::from_u32));
+    assert!(rt; packed.packed_coefficient(1) == second);
     packed.set_packed_coefficient(0, Lanes::ZERO);
-    assert_eq!(rt; packed.ext_lane(1), pair(0, 4));
+    assert!(rt; packed.ext_lane(1) == pair(0, 4));
     let mut out = [Pair::ZERO; 2];
     packed.store_ext(&mut out);
-    assert_eq!(rt; out, [pair(0, 2), pair(0, 4)]);
+    assert!(rt; out == [pair(0, 2), pair(0, 4)]);
 }
 
 #[test]
 fn pair_over_itself(rt: HostRuntime) {
     let mut element = pair(1, 2);
-    assert_eq!(rt;
-        <Pair as ExtensionField<Pair>>::coefficient(&element, 0),
-        pair(1, 2)
-    );
+    assert!(rt; <Pair as ExtensionField<Pair>>::coefficient(&element, 0) == pair(1, 2));
     <Pair as ExtensionField<Pair>>::set_coefficient(&mut element, 0, pair(3, 4));
-    assert_eq!(rt; element, pair(3, 4));
-    assert_eq!(rt; <Pair as ExtensionField<Pair>>::DIMENSION, 1);
+    assert!(rt; element == pair(3, 4));
+    assert!(rt; <Pair as ExtensionField<Pair>>::DIMENSION == 1);
 }
 
 #[test]
 fn pair_lanes_over_itself(rt: HostRuntime) {
     let mut packed = Lanes::<Pair, 1>::from_ext_slice(&[pair(1, 2)]);
-    assert_eq!(rt; packed.ext_lane(0), pair(1, 2));
+    assert!(rt; packed.ext_lane(0) == pair(1, 2));
     packed.set_packed_coefficient(0, Lanes::splat(pair(3, 4)));
-    assert_eq!(rt; packed.packed_coefficient(0), Lanes::splat(pair(3, 4)));
+    assert!(rt; packed.packed_coefficient(0) == Lanes::splat(pair(3, 4)));
     let mut out = [Pair::ZERO];
     packed.store_ext(&mut out);
-    assert_eq!(rt; out, [pair(3, 4)]);
+    assert!(rt; out == [pair(3, 4)]);
 }
 
 #[test]
-fn no_copies_have_no_coefficient(rt: HostRuntime) {
+fn no_copies(rt: HostRuntime) {
     let none = ProductAlgebra::<Bear, 0>::from_array([]);
-    assert_eq!(rt; none, ProductAlgebra::ZERO);
-    assert_eq!(rt;
-        <ProductAlgebra<Bear, 0> as ExtensionField<Bear>>::DIMENSION,
-        0
-    );
+    assert!(rt; none == ProductAlgebra::ZERO);
+    assert!(rt; none == ProductAlgebra::ONE);
+    assert!(rt; <ProductAlgebra<Bear, 0> as ExtensionField<Bear>>::DIMENSION == 0);
     let packed = ProductAlgebra::<Lanes<Bear, 4>, 0>::from_ext_slice(&[none; 4]);
-    assert_eq!(rt; packed.ext_lane(3), none);
+    assert!(rt; packed == ProductAlgebra::ZERO);
+    assert!(rt; packed.ext_lane(3) == none);
+    assert!(rt; ProductAlgebra::<Bear, 0>::bytes() == 0);
 }
 
 #[test]
 fn one_copy(rt: HostRuntime) {
     let five = ProductAlgebra::<Bear, 1>::from_base(Bear::from_u32(5));
-    assert_eq!(rt;
-        <ProductAlgebra<Bear, 1> as ExtensionField<Bear>>::coefficient(&five, 0),
-        Bear::from_u32(5)
+    assert!(rt;
+        <ProductAlgebra<Bear, 1> as ExtensionField<Bear>>::coefficient(&five, 0)
+            == Bear::from_u32(5)
     );
     let packed = ProductAlgebra::<Lanes<Bear, 4>, 1>::from_ext_slice(&[five; 4]);
-    assert_eq!(rt;
-        packed.packed_coefficient(0),
-        Lanes::splat(Bear::from_u32(5))
-    );
+    assert!(rt; packed.packed_coefficient(0) == Lanes::splat(Bear::from_u32(5)));
 }
 
 #[test]
@@ -134,11 +109,24 @@ fn nine_copies(rt: HostRuntime) {
     let five = ProductAlgebra::<Bear, 9>::from_base(Bear::from_u32(5));
     let mut element = five * five;
     <ProductAlgebra<Bear, 9> as ExtensionField<Bear>>::set_coefficient(&mut element, 8, Bear::ONE);
-    assert_eq!(rt;
-        <ProductAlgebra<Bear, 9> as ExtensionField<Bear>>::coefficient(&element, 7),
-        Bear::from_u32(25)
+    assert!(rt;
+        <ProductAlgebra<Bear, 9> as ExtensionField<Bear>>::coefficient(&element, 7)
+            == Bear::from_u32(25)
     );
     let packed = ProductAlgebra::<Lanes<Bear, 4>, 9>::from_ext_slice(&[element; 4]);
-    assert_eq!(rt; packed.packed_coefficient(8), Lanes::ONE);
-    assert_eq!(rt; packed.ext_lane(3), element);
+    assert!(rt; packed.packed_coefficient(8) == Lanes::ONE);
+    assert!(rt; packed.ext_lane(3) == element);
+    assert!(rt; ProductAlgebra::<Bear, 9>::bytes() == 36);
+}
+
+#[test]
+fn bytes_of_the_most_copies(rt: HostRuntime) {
+    assert!(rt; ProductAlgebra::<Bear, 4611686018427387904>::bytes() == usize::MAX);
+}
+
+#[test]
+fn samples(rt: HostRuntime) {
+    let (mut rng, mut same) = (Pcg32::new(42, 54), Pcg32::new(42, 54));
+    let copies = [0; 2].map(|_| NarrowBear::sample(&mut same));
+    assert!(rt; Pair::sample(&mut rng) == ProductAlgebra::from_array(copies));
 }

@@ -1,184 +1,58 @@
-//! Calls of each item through its bound, in whole numbers: over residues and words, as they are and
-//! in lanes.
-ghost use Rattle.std.specs.Prelude.{◌≡◌, ◌<◌, length};
+//! Calls of each item through its bound, in whole numbers: of rings over residues and words, as they are and in
+//! lanes, and of fields.
+ghost use Rattle.std.specs.Prelude.{◌*◌, ◌<◌, ◌^◌};
+ghost use Rattle.std.specs.Mem.{type_size};
 
-use mlu_lanes::{BabyBear, LaneWidth, Lanes, WrappingU64};
+use super::{Bear, Bears, Word, Words};
+use mlu_lanes::{BabyBear, WrappingU64};
 use mlu_ring::place_by_place::{multiply_each, negate_each, sub_each};
 use mlu_ring::{
-    Additive, Algebra, Counter, ExtensionField, Field, Lanewise, Meter, PackedValue,
-    PrimeCharacteristicRing, RingMapFrom, SelfAlgebra, Unmetered, dot4, mixed_dot4,
+    Additive, Counter, Field, Lanewise, MapFrom, Meter, PackedValue, PrimeCharacteristicRing,
+    SelfAlgebra, Unmetered, dot4, mixed_dot4,
 };
 use mlu_test_support::bounds::{
-    adds_lanes, doubles, doubles_and_adds, doubles_lanes, four_times, gives_zeros, mapped,
-    multiplies_lanes, packs_coefficients, products, ring_mapped, scaled, scaled_by_itself, sums,
-    sums_at_places, sums_columns,
+    four_times, gives_zeros, products, ring_mapped, sums, sums_at_places, sums_columns,
 };
-use mlu_test_support::draws::drawn;
-use mlu_test_support::lists::filled;
 use mlu_test_support::numbers::{are, element, elements};
-use rand_pcg::Pcg32;
 use std::alloc::{AllocError, Global};
 use std::test::Fail;
 
-type Bear = BabyBear<4>;
-
-type Bears = Lanes<Bear, 4>;
-
-type Word = WrappingU64<2>;
-
-type Words = Lanes<Word, 2>;
-
-/// A call and what it is to answer.
-enum Row {
+/// A call of a ring.
+#[derive(Drop)]
+enum RingRow {
     Sums,
     Products,
     FourProducts,
-    FourProductsAtPlaces,
+    Columns,
+    Places,
     Zeros,
-    Scaled,
     PlaceByPlace,
-    Reloaded,
-    Lanes,
-    Bytes(usize),
-    PackedProducts,
-    FourSquares,
-    Counted,
-    Doubled,
-    DoubledLanes(i32, i32),
-    PackedCoefficients,
-    LanesInOrder(i32, i32, i32),
+    Scaled,
 }
 
-/// Whether the row holds over `EF`, and where it is of a ring alone, over its packed form too.
-fn holds<F: Field, EF: ExtensionField<F>>(alloc: Global, row: Row) -> Result<bool, AllocError> {
+/// Whether the row holds.
+fn ring_holds<R: SelfAlgebra>(alloc: Global, row: &RingRow) -> Result<bool, AllocError> {
+    let (five, three): (R, R) = (element(5), element(3));
     match row {
-        Row::Sums => Ok(adds::<EF>() && adds::<EF::ExtensionPacking>()),
-        Row::Products => Ok(multiplies::<EF>() && multiplies::<EF::ExtensionPacking>()),
-        Row::FourProducts => Ok(adds_products::<EF>() && adds_products::<EF::ExtensionPacking>()),
-        Row::FourProductsAtPlaces => Ok(
-            sums_at_places::<EF>(alloc)? && sums_at_places::<EF::ExtensionPacking>(alloc)?,
-        ),
-        Row::Zeros => Ok(gives_zeros::<EF>(alloc)? && gives_zeros::<EF::ExtensionPacking>(alloc)?),
-        Row::Scaled => Ok(
-            scales::<F, EF>()
-                && scales::<EF, EF::ExtensionPacking>()
-                && scales::<F::Packing, EF::ExtensionPacking>(),
-        ),
-        Row::PlaceByPlace => place_by_place::<EF>(alloc),
-        Row::Reloaded => reloads::<F>(alloc),
-        Row::Lanes => Ok(doubles_and_adds::<F>(element(1), element(3), element(5))),
-        Row::Bytes(bytes) => Ok(F::bytes() == bytes),
-        Row::PackedProducts => multiplies_lanes::<F>(alloc, element(5), element(3), element(165)),
-        Row::FourSquares => squares_lanes::<F>(alloc),
-        Row::Counted => Ok(counts::<F>()),
-        Row::Doubled => Ok(doubles::<F, EF>(element(3), element(6))),
-        Row::DoubledLanes(number, twice) => doubles_lanes::<F, EF>(
-            alloc,
-            element(number),
-            element(twice),
-        ),
-        Row::PackedCoefficients => Ok(packs_coefficients::<F, EF>(element(3))),
-        Row::LanesInOrder(first, second, sum) => adds_lanes::<F, EF>(
-            alloc,
-            element(first),
-            element(second),
-            element(sum),
-        ),
+        RingRow::Sums => Ok(sums(five, three) == element(20)),
+        RingRow::Products => Ok(products(five, three) == element(450)),
+        RingRow::FourProducts => Ok(adds_products::<R>()),
+        RingRow::Columns => Ok(sums_columns(three, element(4))),
+        RingRow::Places => sums_at_places::<R>(alloc),
+        RingRow::Zeros => gives_zeros::<R>(alloc),
+        RingRow::PlaceByPlace => place_by_place::<R>(alloc),
+        RingRow::Scaled => Ok(five.scale(three).plus(three) + R::from_base(three) == element(21)),
     }
 }
 
-/// [`holds`] over residues.
-fn residues<const W: usize>(alloc: Global, row: Row) -> Result<bool, AllocError>
-where
-    Lanes<BabyBear<W>, W>: LaneWidth<W>,
-    requires { W < 17 }
-{
-    holds::<BabyBear<W>, BabyBear<W>>(alloc, row)
-}
-
-/// [`holds`] over words.
-fn words<const W: usize>(alloc: Global, row: Row) -> Result<bool, AllocError>
-where
-    Lanes<WrappingU64<W>, W>: LaneWidth<W>,
-    requires { W < 17 }
-{
-    holds::<WrappingU64<W>, WrappingU64<W>>(alloc, row)
-}
-
-/// 2 (5 + 3) + 3 + 1
-fn adds<R: Additive>() -> bool {
-    sums::<R>(element(5), element(3)) == element(20)
-}
-
-/// 2 (5 * 3)^2
-fn multiplies<R: PrimeCharacteristicRing>() -> bool {
-    products::<R>(element(5), element(3)) == element(450)
-}
-
-/// 1 * 4 + 2 * 3 + 3 * 2 + 4 * 2, four squares of -1, and a row times a matrix
+/// 1 * 4 + 2 * 3 + 3 * 2 + 4 * 2, and four squares of -1
 fn adds_products<R: PrimeCharacteristicRing>() -> bool {
     let (three, four) = (element(3), element(4));
     let sum = R::four_products(
         &(R::ONE, R::TWO, three, four),
         &(four, three, R::TWO, R::TWO),
     );
-    sum == element(24) && four_times(R::NEG_ONE, R::NEG_ONE) == four && sums_columns(three, four)
-}
-
-/// 5 * 3 + 2 * 3
-fn scales<B: Additive, A: Algebra<B>>() -> bool {
-    scaled::<B, A>(element(5), element(3)) == element(21)
-}
-
-/// 5 * 3
-fn scales_by_itself<R: SelfAlgebra>() -> bool {
-    scaled_by_itself::<R>(element(5), element(3)) == element(15)
-}
-
-/// The lanes 1, 2, .. loaded, stored and read
-fn reloads<F: Lanewise>(alloc: Global) -> Result<bool, AllocError> {
-    let counted = elements(
-        alloc,
-        &[1, 2, 3, 4, 5, 6, 7, 8, 9, 10, 11, 12, 13, 14, 15, 16],
-    )?;
-    let width = F::Packing::WIDTH;
-    if width == 0 || 16 < width {
-        return Ok(false);
-    }
-    let values = &counted[..width];
-    let mut out = filled(alloc, F::ZERO, width)?;
-    Ok(reloaded::<F::Packing>(values, out.as_mut_slice()) && out.as_slice() == values)
-}
-
-/// Whether the first lane is the first value, and the logarithm of the width is below it.
-fn reloaded<P: PackedValue>(values: &[P::Value], out: &mut [P::Value]) -> bool
-    requires lanes { 0 < P.WIDTH }
-    requires read { length values.now ≡ P.WIDTH }
-    requires written { length out.old ≡ P.WIDTH }
-{
-    let packed = P::load(values);
-    packed.store(out);
-    let filled = P::splat(values[0]);
-    filled.lane(0) == packed.lane(0) && P::LOG_WIDTH < P::WIDTH
-}
-
-/// Four squares of -1
-fn squares_lanes<F: Field>(alloc: Global) -> Result<bool, AllocError> {
-    let minus = filled(alloc, F::Packing::splat(F::NEG_ONE), 4)?;
-    Ok(F::dot4(minus.as_slice(), minus.as_slice()) == F::Packing::splat(element(4)))
-}
-
-/// 3 * 3, alone and in every lane, each by a counter
-fn counts<F: Field>() -> bool {
-    let three: F = element(3);
-    let threes = F::Packing::splat(three);
-    let (mut one, mut lanes) = (Counter::new(), Counter::new());
-    let nine = one.times(three, three);
-    let nines = Meter::<F>::times_lanes(&mut lanes, threes, threes);
-    let multiplied = nine == element(9) && nines == F::Packing::splat(nine);
-    multiplied
-        && (one.made(), one.groups()) == (1, 0)
-        && (lanes.made(), lanes.groups()) == (F::Packing::WIDTH as u64, 0)
+    sum == element(24) && four_times(R::NEG_ONE, R::NEG_ONE) == four
 }
 
 /// Sums, differences, products and negations, place by place
@@ -194,108 +68,102 @@ fn place_by_place<R: PrimeCharacteristicRing>(alloc: Global) -> Result<bool, All
     Ok(added && multiplied && are(out.as_slice(), &[-10, -21]))
 }
 
+/// [`ring_holds`] over residues.
+fn residues(alloc: Global, row: &RingRow) -> Result<bool, AllocError> {
+    ring_holds::<Bear>(alloc, row)
+}
+
+/// [`ring_holds`] over words.
+fn words(alloc: Global, row: &RingRow) -> Result<bool, AllocError> {
+    ring_holds::<Word>(alloc, row)
+}
+
+/// [`ring_holds`] over residues in lanes.
+fn packed_residues(alloc: Global, row: &RingRow) -> Result<bool, AllocError> {
+    ring_holds::<Bears>(alloc, row)
+}
+
+/// [`ring_holds`] over words in lanes.
+fn packed_words(alloc: Global, row: &RingRow) -> Result<bool, AllocError> {
+    ring_holds::<Words>(alloc, row)
+}
+
+/// 11 * 5 * 3, by each product of a field in lanes, and by sums of four.
+fn multiplies_lanes<F: Field>() -> bool
+    requires packings_fit { 4 * type_size F.Packing.row < 2 ^ 63 }
+    requires elements_fit { 4 * type_size F.row < 2 ^ 63 }
+{
+    let three: F = element(3);
+    let (l, r) = (F::Packing::splat(element(5)), F::Packing::splat(three));
+    let rows = [l, l, l, l];
+    let groups = dot4::<F>(&rows, &[r, r, r, r])
+        + mixed_dot4::<F>(&rows, &[three, three, three, three]);
+    let fixed = F::lanes_times_fixed(l, r) + F::lanes_scale(l, three);
+    groups + F::lanes_mul(l, r) + fixed == F::Packing::splat(element(165))
+}
+
+/// 3 * 3, alone and in every lane, each by a counter
+fn counts<F: Field>() -> bool {
+    let three: F = element(3);
+    let threes = F::Packing::splat(three);
+    let (mut one, mut lanes) = (Counter::new(), Counter::new());
+    let nine = one.times(three, three);
+    let nines = Meter::<F>::times_lanes(&mut lanes, threes, threes);
+    let multiplied = nine == element(9) && nines == F::Packing::splat(nine);
+    multiplied
+        && (one.made(), one.groups()) == (1, 0)
+        && (lanes.made(), lanes.groups()) == (F::Packing::WIDTH as u64, 0)
+}
+
+/// Whether an element has so many bytes, and products are right in lanes and by counters.
+fn is_field<F: Field>(bytes: usize) -> bool
+    requires packings_fit { 4 * type_size F.Packing.row < 2 ^ 63 }
+    requires elements_fit { 4 * type_size F.row < 2 ^ 63 }
+{
+    F::bytes() == bytes && multiplies_lanes::<F>() && counts::<F>()
+}
+
 #[test]
 fn rings(rt: HostRuntime) -> Result<(), Fail> {
-    assert!(rt; residues::<4>(rt.alloc(), Row::Sums)?);
-    assert!(rt; words::<2>(rt.alloc(), Row::Sums)?);
-    assert!(rt; residues::<4>(rt.alloc(), Row::Products)?);
-    assert!(rt; words::<2>(rt.alloc(), Row::Products)?);
-    assert!(rt; residues::<4>(rt.alloc(), Row::FourProducts)?);
-    assert!(rt; words::<2>(rt.alloc(), Row::FourProducts)?);
-    assert!(rt; residues::<4>(rt.alloc(), Row::FourProductsAtPlaces)?);
-    assert!(rt; words::<2>(rt.alloc(), Row::FourProductsAtPlaces)?);
-    assert!(rt; residues::<4>(rt.alloc(), Row::Zeros)?);
-    assert!(rt; words::<2>(rt.alloc(), Row::Zeros)?);
-    assert!(rt; residues::<4>(rt.alloc(), Row::Scaled)?);
-    assert!(rt; words::<2>(rt.alloc(), Row::Scaled)?);
-    assert!(rt; residues::<4>(rt.alloc(), Row::PlaceByPlace)?);
-    assert!(rt; words::<2>(rt.alloc(), Row::PlaceByPlace)?);
+    let rows = [
+        RingRow::Sums,
+        RingRow::Products,
+        RingRow::FourProducts,
+        RingRow::Columns,
+        RingRow::Places,
+        RingRow::Zeros,
+        RingRow::PlaceByPlace,
+        RingRow::Scaled,
+    ];
+    for (index, row) in rows.iter().enumerate() {
+        assert!(rt; residues(rt.alloc(), row)?, "residues, row {index}");
+        assert!(rt; words(rt.alloc(), row)?, "words, row {index}");
+        assert!(rt;
+            packed_residues(rt.alloc(), row)?,
+            "residues in lanes, row {index}"
+        );
+        assert!(rt;
+            packed_words(rt.alloc(), row)?,
+            "words in lanes, row {index}"
+        );
+    }
     Ok(())
 }
 
 #[test]
-fn four_products_at_each_width(rt: HostRuntime) -> Result<(), Fail> {
-    assert!(rt; residues::<1>(rt.alloc(), Row::FourSquares)?);
-    assert!(rt; residues::<2>(rt.alloc(), Row::FourSquares)?);
-    assert!(rt; residues::<4>(rt.alloc(), Row::FourSquares)?);
-    assert!(rt; residues::<8>(rt.alloc(), Row::FourSquares)?);
-    assert!(rt; residues::<16>(rt.alloc(), Row::FourSquares)?);
-    Ok(())
+fn field_of_residues(rt: HostRuntime) {
+    assert!(rt; is_field::<Bear>(4));
 }
 
 #[test]
-fn lanes(rt: HostRuntime) -> Result<(), Fail> {
-    assert!(rt; residues::<4>(rt.alloc(), Row::Reloaded)?);
-    assert!(rt; words::<2>(rt.alloc(), Row::Reloaded)?);
-    assert!(rt; residues::<4>(rt.alloc(), Row::Lanes)?);
-    assert!(rt; words::<2>(rt.alloc(), Row::Lanes)?);
-    Ok(())
+fn field_of_words(rt: HostRuntime) {
+    assert!(rt; is_field::<Word>(8));
+    assert!(rt; size_of_val(&Unmetered::new()) == 0);
 }
 
-#[test]
-fn fields(rt: HostRuntime) -> Result<(), Fail> {
-    assert!(rt; residues::<4>(rt.alloc(), Row::Bytes(4))?);
-    assert!(rt; words::<2>(rt.alloc(), Row::Bytes(8))?);
-    assert!(rt; residues::<4>(rt.alloc(), Row::PackedProducts)?);
-    assert!(rt; words::<2>(rt.alloc(), Row::PackedProducts)?);
-    Ok(())
-}
-
-#[test]
-fn meters(rt: HostRuntime) -> Result<(), Fail> {
-    assert!(rt; residues::<4>(rt.alloc(), Row::Counted)?);
-    assert!(rt; words::<2>(rt.alloc(), Row::Counted)?);
-    assert_eq!(rt; size_of_val(&Unmetered::new()), 0);
-    Ok(())
-}
-
-#[test]
-fn lanes_in_order(rt: HostRuntime) -> Result<(), Fail> {
-    assert!(rt; residues::<4>(rt.alloc(), Row::LanesInOrder(3, 5, 32))?);
-    assert!(rt; words::<2>(rt.alloc(), Row::LanesInOrder(2, 0, 4))?);
-    Ok(())
-}
-
-#[test]
-fn over_itself(rt: HostRuntime) -> Result<(), Fail> {
-    assert!(rt; residues::<4>(rt.alloc(), Row::Doubled)?);
-    assert!(rt; words::<2>(rt.alloc(), Row::Doubled)?);
-    assert!(rt; residues::<4>(rt.alloc(), Row::DoubledLanes(3, 6))?);
-    assert!(rt; words::<2>(rt.alloc(), Row::DoubledLanes(1, 2))?);
-    assert!(rt; residues::<4>(rt.alloc(), Row::PackedCoefficients)?);
-    assert!(rt; words::<2>(rt.alloc(), Row::PackedCoefficients)?);
-    Ok(())
-}
-
-#[test]
-fn products_of_arrays(rt: HostRuntime) {
-    let (fives, three) = ([Bears::splat(Bear::from_u32(5)); 4], Bear::from_u32(3));
-    let sixty = Bears::splat(Bear::from_u32(60));
-    assert_eq!(rt; dot4::<Bear>(&fives, &[Bears::splat(three); 4]), sixty);
-    assert_eq!(rt; mixed_dot4::<Bear>(&fives, &[three; 4]), sixty);
-    let (row, column) = (
-        (fives[0], fives[1], fives[2], fives[3]),
-        (three, three, three, three),
-    );
-    assert_eq!(rt; Bears::row_times_column(&row, &column), sixty);
-    let (fives, three) = ([Words::splat(Word::new(5)); 4], Word::new(3));
-    let sixty = Words::splat(Word::new(60));
-    assert_eq!(rt; dot4::<Word>(&fives, &[Words::splat(three); 4]), sixty);
-    assert_eq!(rt; mixed_dot4::<Word>(&fives, &[three; 4]), sixty);
-    let (row, column) = (
-        (fives[0], fives[1], fives[2], fives[3]),
-        (three, three, three, three),
-    );
-    assert_eq!(rt; Words::row_times_column(&row, &column), sixty);
-}
-
-/// Whether residues, words and lanes of residues are algebras over themselves.
-fn scale_by_themselves<const W: usize>() -> bool
-    requires { W < 17 }
-{
-    scales_by_itself::<BabyBear<W>>()
-        && scales_by_itself::<WrappingU64<W>>()
-        && scales_by_itself::<Lanes<BabyBear<W>, W>>()
+/// The image of `x`.
+fn mapped<A: Additive, B: MapFrom<A>>(x: A) -> B {
+    B::map(x)
 }
 
 /// Whether the greatest residue is the word of its number, and each ring is mapped to itself.
@@ -310,26 +178,7 @@ fn are_mapped<const W: usize>() -> bool {
 }
 
 #[test]
-fn algebras_over_themselves(rt: HostRuntime) {
-    assert!(rt; scale_by_themselves::<4>());
-    assert!(rt; scale_by_themselves::<2>());
-}
-
-#[test]
 fn conversions(rt: HostRuntime) {
     assert!(rt; are_mapped::<4>());
     assert!(rt; are_mapped::<2>());
-}
-
-#[test]
-fn samples(rt: HostRuntime) -> Result<(), Fail> {
-    let (mut rng, mut same) = (Pcg32::new(42, 54), Pcg32::new(42, 54));
-    let lanes = drawn::<Words>(rt.alloc(), &mut rng, 1)?;
-    let words = drawn::<Word>(rt.alloc(), &mut same, 2)?;
-    assert_eq!(rt; lanes[0].to_array().as_slice(), words.as_slice());
-    let none = drawn::<Lanes<Bear, 0>>(rt.alloc(), &mut rng, 1)?;
-    assert_eq!(rt; none[0].to_array(), []);
-    let residue = drawn::<Bear>(rt.alloc(), &mut rng, 1)?;
-    assert_eq!(rt; residue, drawn::<Bear>(rt.alloc(), &mut same, 1)?);
-    Ok(())
 }

@@ -1,12 +1,8 @@
 //! Points made of numbers, and values at a point that need no table.
-ghost use Rattle.std.specs.Prelude.{◌<◌, length};
 
 use mlu_point::point::{Point, Successor};
-use mlu_ring::{Additive, Algebra, ExtensionField, Field, PrimeCharacteristicRing, Sample};
-use mlu_test_support::draws::drawn;
+use mlu_ring::{Additive, ExtensionField, Field};
 use mlu_test_support::numbers::{are, element, elements};
-use mlu_test_support::plain::{dot, images, last, next, table, value, weight};
-use rand_pcg::Pcg32;
 use std::alloc::{AllocError, Global};
 
 /// A vertex, and the powers of an element.
@@ -44,124 +40,24 @@ pub fn values<F: Field, EF: ExtensionField<F>>(alloc: Global) -> Result<bool, Al
     Ok(equal && selected == element(615))
 }
 
-/// The parts of the step to the next row at two coordinates, at none and at one.
+/// The parts of the step to the next row at two coordinates, at none and at one; the index after the
+/// last of four by each rule, and the steps by each at two coordinates, and at none.
 pub fn steps<R: Field>(alloc: Global) -> Result<bool, AllocError> {
     let point: Vec<R> = elements(alloc, &[2, 3])?;
     let row: Vec<R> = elements(alloc, &[5, 7])?;
     let two = Point::eval_next(point.as_slice(), row.as_slice());
-    let none = Point::<R>::eval_next(&[], &[]);
-    let zeros: Vec<R> = elements(alloc, &[0])?;
-    let ones: Vec<R> = elements(alloc, &[1])?;
-    let one = Point::eval_next(zeros.as_slice(), ones.as_slice());
-    Ok(
-        two == (element(144), element(-106), element(210))
-            && none == (R::ONE, R::ZERO, R::ONE)
-            && one == (R::ZERO, R::ONE, R::ZERO),
-    )
-}
-
-/// The parts of a step: the product of the weights at the ends, the sum over all rows but the last,
-/// and the product of the last weights.
-fn plain_steps<R: PrimeCharacteristicRing>(
-    alloc: Global,
-    point: &[R],
-    row: &[R],
-) -> Result<(R, R, R), AllocError>
-    requires point { length point.now < 6 }
-    requires row { length row.now < 6 }
-{
-    let from = table(alloc, point, R::ONE)?;
-    let to = table(alloc, row, R::ONE)?;
-    let leaves = last(from.as_slice()) * weight(row, 0);
-    let steps = dot(from.as_slice(), &to[1..]);
-    let stays = last(from.as_slice()) * last(to.as_slice());
-    Ok((leaves, steps, stays))
-}
-
-/// The parts of a step at drawn points.
-pub fn drawn_steps<R: Field + Sample>(alloc: Global, n: usize) -> Result<bool, AllocError> {
-    if n >= 6 {
-        return Ok(false);
+    let one = Point::eval_next(&[R::ZERO], &[R::ONE]);
+    let parts = two == (element(144), element(-106), element(210))
+        && Point::<R>::eval_next(&[], &[]) == (R::ONE, R::ZERO, R::ONE)
+        && one == (R::ZERO, R::ONE, R::ZERO);
+    let rules = [(Successor::RepeatLast, 3, 104), (Successor::Wrap, 0, 38)];
+    for (rule, after, step) in rules {
+        if rule.after_last(4) != after
+            || Point::eval_next_by(rule, point.as_slice(), row.as_slice()) != element(step)
+            || Point::<R>::eval_next_by(rule, &[], &[]) != R::ONE
+        {
+            return Ok(false);
+        }
     }
-    let mut rng = Pcg32::new(11, 54);
-    let coordinates: Vec<R> = drawn(alloc, &mut rng, n + n)?;
-    let (point, row) = coordinates.as_slice().split_at(n);
-    Ok(Point::eval_next(point, row) == plain_steps(alloc, point, row)?)
-}
-
-/// The index after the last of four by each rule, and the steps at two coordinates, and at none.
-pub fn steps_by_rule<R: Field>(alloc: Global) -> Result<bool, AllocError> {
-    let point: Vec<R> = elements(alloc, &[2, 3])?;
-    let row: Vec<R> = elements(alloc, &[5, 7])?;
-    let repeated = Point::eval_next_by(Successor::RepeatLast, point.as_slice(), row.as_slice());
-    let wrapped = Point::eval_next_by(Successor::Wrap, point.as_slice(), row.as_slice());
-    let none = Point::<R>::eval_next_by(Successor::RepeatLast, &[], &[]);
-    let round = Point::<R>::eval_next_by(Successor::Wrap, &[], &[]);
-    let after = Successor::RepeatLast.after_last(4) == 3 && Successor::Wrap.after_last(4) == 0;
-    let steps = repeated == element(104) && wrapped == element(38);
-    Ok(after && steps && none == R::ONE && round == R::ONE)
-}
-
-/// The steps by each rule at drawn points: the value at the row of the weights that are moved.
-pub fn drawn_steps_by_rule<R: Field + Sample>(alloc: Global, n: usize) -> Result<bool, AllocError> {
-    if n >= 6 {
-        return Ok(false);
-    }
-    let mut rng = Pcg32::new(11, 54);
-    let coordinates: Vec<R> = drawn(alloc, &mut rng, n + n)?;
-    let (point, row) = coordinates.as_slice().split_at(n);
-    let weights = table(alloc, point, R::ONE)?;
-    let repeated = next(alloc, &weights, weights.len() - 1)?;
-    let wrapped = next(alloc, &weights, 0)?;
-    Ok(
-        Point::eval_next_by(Successor::RepeatLast, point, row) == value(&repeated, row)
-            && Point::eval_next_by(Successor::Wrap, point, row) == value(&wrapped, row),
-    )
-}
-
-/// The value at the point of a table of base elements.
-fn value_at<F: Additive, EF: Algebra<F>>(
-    alloc: Global,
-    entries: &[F],
-    point: &[EF],
-) -> Result<EF, AllocError> {
-    let images: Vec<EF> = images(alloc, entries)?;
-    Ok(value(images.as_slice(), point))
-}
-
-/// All powers of an element below one.
-fn powers<R: PrimeCharacteristicRing>(
-    alloc: Global,
-    x: R,
-    count: usize,
-) -> Result<Vec<R>, AllocError> {
-    let mut powers = Vec::with_capacity(alloc, count)?;
-    let mut power = R::ONE;
-    for _ in 0..count {
-        powers.push(power)?;
-        power = power * x;
-    }
-    Ok(powers)
-}
-
-/// The values of a drawn equality table and of a table of powers at a drawn point.
-pub fn drawn_values<F: Field + Sample, EF: ExtensionField<F> + Sample>(
-    alloc: Global,
-    n: usize,
-) -> Result<bool, AllocError> {
-    if n >= 6 {
-        return Ok(false);
-    }
-    let mut rng = Pcg32::new(11, 54);
-    let p: Vec<F> = drawn(alloc, &mut rng, n)?;
-    let q: Vec<EF> = drawn(alloc, &mut rng, n)?;
-    let weights = table(alloc, p.as_slice(), F::ONE)?;
-    let equal = value_at(alloc, weights.as_slice(), q.as_slice())?;
-    let x = F::sample(&mut rng);
-    let powers = powers(alloc, x, 1 << n)?;
-    let selected = value_at(alloc, powers.as_slice(), q.as_slice())?;
-    Ok(
-        Point::eval_eq(p.as_slice(), q.as_slice()) == equal
-            && Point::eval_select(x, q.as_slice()) == selected,
-    )
+    Ok(parts)
 }

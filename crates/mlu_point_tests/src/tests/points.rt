@@ -7,8 +7,18 @@ use mlu_test_support::numbers::{are, element, elements};
 use rand_pcg::Pcg32;
 use std::alloc::{AllocError, Global};
 
+/// Whether each row here holds.
+pub fn rows<R: Additive + Sample>(alloc: Global) -> Result<bool, AllocError> {
+    Ok(
+        parts::<R>(alloc)?
+            && parts_of_a_view::<R>(alloc)?
+            && growth::<R>(alloc)?
+            && draws::<R>(alloc)?,
+    )
+}
+
 /// The parts of a point of three coordinates.
-pub fn parts<R: Additive>(alloc: Global) -> Result<bool, AllocError> {
+fn parts<R: Additive>(alloc: Global) -> Result<bool, AllocError> {
     let point: Point<R> = Point::new(elements(alloc, &[2, 3, 5])?);
     let middle = are(point.get_subpoint_over_range(alloc, 1..2)?.as_slice(), &[3]);
     let nothing = point.get_subpoint_over_range(alloc, 3..3)? == Point::empty(alloc);
@@ -27,7 +37,7 @@ fn slice_of<R: Additive>(coordinates: &[R]) -> &[R]
 }
 
 /// The sizes, coordinates and parts of a view of three coordinates.
-pub fn parts_of_a_view<R: Additive>(alloc: Global) -> Result<bool, AllocError> {
+fn parts_of_a_view<R: Additive>(alloc: Global) -> Result<bool, AllocError> {
     let coordinates: Vec<R> = elements(alloc, &[2, 3, 5])?;
     let view = PointView::new(slice_of(coordinates.as_slice()));
     let whole = are(view.as_slice(), &[2, 3, 5])
@@ -44,7 +54,7 @@ pub fn parts_of_a_view<R: Additive>(alloc: Global) -> Result<bool, AllocError> {
 }
 
 /// A point that grows, and its copy, which does not.
-pub fn growth<R: Additive>(alloc: Global) -> Result<bool, AllocError> {
+fn growth<R: Additive>(alloc: Global) -> Result<bool, AllocError> {
     let mut point: Point<R> = Point::new(elements(alloc, &[2, 3])?);
     let before = point.try_clone(alloc)?;
     let same = before == point;

@@ -8,31 +8,29 @@ use std::test::Fail;
 #[test]
 fn points(rt: HostRuntime) -> Result<(), Fail> {
     let owned = Point::new(elements::<WrappingU64<4>>(rt.alloc(), &[2, 3])?);
+    let views = (owned.as_view(), PointView::<WrappingU64<4>>::default());
     assert_eq!(rt;
         debug_text(rt.alloc(), &owned)?.as_str(),
         "Point { coords: [WrappingU64 { value: 2 }, WrappingU64 { value: 3 }] }"
     );
-    let view = owned.as_view();
     assert_eq!(rt;
-        debug_text(rt.alloc(), &view)?.as_str(),
-        "PointView { coords: [WrappingU64 { value: 2 }, WrappingU64 { value: 3 }] }"
-    );
-    let empty = PointView::<WrappingU64<4>>::default();
-    assert_eq!(rt;
-        debug_text(rt.alloc(), &empty)?.as_str(),
-        "PointView { coords: [] }"
+        debug_text(rt.alloc(), &views)?.as_str(),
+        "(PointView { coords: [WrappingU64 { value: 2 }, WrappingU64 { value: 3 }] }, PointView { coords: [] })"
     );
     Ok(())
 }
 
 #[test]
 fn orders_and_rules(rt: HostRuntime) -> Result<(), Fail> {
-    assert_eq!(rt; debug_text(rt.alloc(), &BitOrder::Msb)?.as_str(), "Msb");
-    assert_eq!(rt; debug_text(rt.alloc(), &BitOrder::Lsb)?.as_str(), "Lsb");
-    assert_eq!(rt;
-        debug_text(rt.alloc(), &Successor::RepeatLast)?.as_str(),
-        "RepeatLast"
+    let words = (
+        BitOrder::Msb,
+        BitOrder::Lsb,
+        Successor::RepeatLast,
+        Successor::Wrap,
     );
-    assert_eq!(rt; debug_text(rt.alloc(), &Successor::Wrap)?.as_str(), "Wrap");
+    assert_eq!(rt;
+        debug_text(rt.alloc(), &words)?.as_str(),
+        "(Msb, Lsb, RepeatLast, Wrap)"
+    );
     Ok(())
 }
