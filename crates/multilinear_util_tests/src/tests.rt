@@ -1,10 +1,8 @@
-//! Rows over any rings, worked and drawn, one test a row, at the rings that it is tried at; and what
-//! `{:?}` prints.
+//! What neither `mlu_sweep` nor a line of `mlu_replay` tries: worked rows over any rings, one test a row,
+//! at the rings that it is tried at; the examples of the documents; and what `{:?}` prints.
 mod examples;
-mod folds;
-mod packing;
 mod polys;
 mod rings;
+mod splits;
 mod storages;
-mod tables;
 mod texts;

@@ -1,6 +1,6 @@
-//! Sizes, views, copies, growth and draws.
+//! Sizes, views, copies and draws.
 
-use super::rings::{Row, quartics, residues};
+use super::rings::{Row, residues};
 use mlu_ring::{Additive, PrimeCharacteristicRing, Sample};
 use mlu_test_support::numbers::{are, element};
 use mlu_test_tables::table;
@@ -38,12 +38,6 @@ fn are_added<R: Additive>(lent: &Poly<R>, given: Poly<R>) -> bool {
     sum == element(20)
 }
 
-#[test]
-fn owned(rt: HostRuntime) -> Result<(), Fail> {
-    assert!(rt; residues::<4>(rt.alloc(), Row::Owned)?);
-    Ok(())
-}
-
 /// Whether a constant and the zero polynomial are what they are to be.
 pub fn is_constant<R: PrimeCharacteristicRing>(alloc: Global) -> Result<bool, AllocError> {
     let poly = table::<R>(alloc, &[7])?;
@@ -53,12 +47,6 @@ pub fn is_constant<R: PrimeCharacteristicRing>(alloc: Global) -> Result<bool, Al
             && poly.as_constant() == Some(element(7))
             && are(zero.as_slice(), &[0; 8]),
     )
-}
-
-#[test]
-fn constants(rt: HostRuntime) -> Result<(), Fail> {
-    assert!(rt; quartics::<4>(rt.alloc(), Row::Constants)?);
-    Ok(())
 }
 
 /// The entries of a polynomial whose view is gone.
@@ -83,26 +71,9 @@ pub fn is_viewed<R: Additive>(alloc: Global) -> Result<bool, AllocError> {
 }
 
 #[test]
-fn views(rt: HostRuntime) -> Result<(), Fail> {
+fn owned_and_viewed(rt: HostRuntime) -> Result<(), Fail> {
+    assert!(rt; residues::<4>(rt.alloc(), Row::Owned)?);
     assert!(rt; residues::<4>(rt.alloc(), Row::Views)?);
-    Ok(())
-}
-
-/// Whether zeros are added and the upper half is cut off.
-pub fn changes_size<R: PrimeCharacteristicRing>(alloc: Global) -> Result<bool, AllocError> {
-    let mut poly = table::<R>(alloc, &[1, 2])?;
-    poly.pad_zeros(2)?;
-    let is_grown = are(poly.as_slice(), &[1, 2, 0, 0]);
-    poly.as_mut_slice().reverse();
-    poly.truncate_to_half();
-    let mut counted = table::<R>(alloc, &[1, 2, 3, 4])?;
-    counted.truncate_to_half();
-    Ok(is_grown && are(poly.as_slice(), &[0, 0]) && are(counted.as_slice(), &[1, 2]))
-}
-
-#[test]
-fn grows_and_shrinks(rt: HostRuntime) -> Result<(), Fail> {
-    assert!(rt; residues::<4>(rt.alloc(), Row::GrowsAndShrinks)?);
     Ok(())
 }
 

@@ -2,58 +2,42 @@
 //! pays for every implementation that the rings stand on, and a call of these pays for none.
 ghost use Rattle.std.specs.Prelude.{◌≤◌};
 
-use super::{folds, packing, polys, storages, tables};
+use super::{polys, splits, storages, texts};
 use mlu_ext::QuarticExtension;
-use mlu_lanes::{BabyBear, LaneWidth, Lanes};
-use mlu_ring::{ExtensionField, Field, Sample};
+use mlu_lanes::{BabyBear, LaneWidth, Lanes, WrappingU64};
+use mlu_ring::{ExtensionField, Sample};
 use std::alloc::{AllocError, Global};
+use std::fmt::Debug;
 
-/// What is tried.
+/// What is tried over a field that is its own extension.
 pub enum Row {
-    BaseTables,
-    Coefficients,
-    CoefficientsAtTwo,
-    Constants,
     Draws,
-    EmptyPoint,
-    GrowsAndShrinks,
-    InPlace,
-    IntoTheExtension,
+    Halves,
     Owned,
-    PackedStorage,
-    Packs,
-    ScalarStorage,
-    Sums,
-    TablesOfPoints,
-    ToPacked,
+    Parts,
+    Storages,
+    Successors,
+    Texts,
+    TheFunction,
     Views,
 }
 
 /// Whether the row holds.
-fn holds<F: Field + Sample, EF: ExtensionField<F> + Sample>(
-    alloc: Global,
-    row: Row,
-) -> Result<bool, AllocError>
-    requires { F.Packing.WIDTH ≤ 8 }
+fn holds<R: ExtensionField<R> + Sample + Debug>(alloc: Global, row: Row) -> Result<bool, AllocError>
+where
+    R::ExtensionPacking: Debug,
+    requires { R.Packing.WIDTH ≤ 16 }
 {
     match row {
-        Row::BaseTables => packing::base_tables::<F, EF>(alloc),
-        Row::Coefficients => folds::coefficients::<F, EF>(alloc),
-        Row::CoefficientsAtTwo => folds::coefficients_at_two::<F, EF>(alloc),
-        Row::Constants => polys::is_constant::<EF>(alloc),
-        Row::Draws => polys::draws_two::<EF>(alloc),
-        Row::EmptyPoint => tables::of_the_empty_point::<EF>(alloc),
-        Row::GrowsAndShrinks => polys::changes_size::<EF>(alloc),
-        Row::InPlace => folds::in_place::<F, EF>(alloc),
-        Row::IntoTheExtension => folds::into_the_extension::<F, EF>(alloc),
-        Row::Owned => polys::owns::<EF>(alloc),
-        Row::PackedStorage => storages::packed::<F, EF>(alloc),
-        Row::Packs => packing::packs::<F, EF>(alloc),
-        Row::ScalarStorage => storages::scalar::<F, EF>(alloc),
-        Row::Sums => folds::sums::<EF>(alloc),
-        Row::TablesOfPoints => tables::of_points::<F, EF>(alloc),
-        Row::ToPacked => folds::to_packed::<F, EF>(alloc),
-        Row::Views => polys::is_viewed::<EF>(alloc),
+        Row::Draws => polys::draws_two::<R>(alloc),
+        Row::Halves => splits::has_halves::<R>(alloc),
+        Row::Owned => polys::owns::<R>(alloc),
+        Row::Parts => splits::leaves_in_parts::<R>(alloc),
+        Row::Storages => storages::both::<R, R>(alloc),
+        Row::Successors => splits::meets_successors::<R>(alloc),
+        Row::Texts => texts::prints::<R>(alloc),
+        Row::TheFunction => splits::is_the_function::<R>(alloc),
+        Row::Views => polys::is_viewed::<R>(alloc),
     }
 }
 
@@ -61,29 +45,38 @@ fn holds<F: Field + Sample, EF: ExtensionField<F> + Sample>(
 pub fn residues<const W: usize>(alloc: Global, row: Row) -> Result<bool, AllocError>
 where
     Lanes<BabyBear<W>, W>: LaneWidth<W>,
-    requires { W ≤ 8 }
+    requires { W ≤ 16 }
 {
-    holds::<BabyBear<W>, BabyBear<W>>(alloc, row)
+    holds::<BabyBear<W>>(alloc, row)
 }
 
-/// [`holds`] over an extension of residues. The bound names its field: a call with two types as parameters
-/// is more than the prover takes.
-fn over_residues<const W: usize, EF: ExtensionField<BabyBear<W>> + Sample>(
+/// Whether constants and both storages over an extension of residues are as they must be. The bound names
+/// its field: a call with two types as parameters is more than the prover takes.
+fn over_residues<const W: usize, EF: ExtensionField<BabyBear<W>>>(
     alloc: Global,
-    row: Row,
 ) -> Result<bool, AllocError>
 where
     Lanes<BabyBear<W>, W>: LaneWidth<W>,
-    requires { W ≤ 8 }
+    requires { W ≤ 16 }
 {
-    holds::<BabyBear<W>, EF>(alloc, row)
+    Ok(polys::is_constant::<EF>(alloc)? && storages::both::<BabyBear<W>, EF>(alloc)?)
 }
 
-/// [`holds`] over the quartic extension.
-pub fn quartics<const W: usize>(alloc: Global, row: Row) -> Result<bool, AllocError>
+/// [`over_residues`] over the quartic extension.
+pub fn quartics<const W: usize>(alloc: Global) -> Result<bool, AllocError>
 where
     Lanes<BabyBear<W>, W>: LaneWidth<W>,
-    requires { W ≤ 8 }
+    requires { W ≤ 16 }
 {
-    over_residues::<W, QuarticExtension<BabyBear<W>>>(alloc, row)
+    over_residues::<W, QuarticExtension<BabyBear<W>>>(alloc)
+}
+
+/// Whether the images of a split table of residues in the words are right.
+pub fn words<const W: usize>(alloc: Global) -> Result<bool, AllocError>
+where
+    Lanes<BabyBear<W>, W>: LaneWidth<W>,
+    Lanes<WrappingU64<W>, W>: LaneWidth<W>,
+{
+    let images = [WrappingU64::<W>::new(10066329600), WrappingU64::new(10)];
+    splits::has_images::<BabyBear<W>, WrappingU64<W>>(alloc, &images)
 }

@@ -1,96 +1,95 @@
 //! Scalar and packed storage of one table.
 ghost use Rattle.std.specs.Prelude.{◌≡◌, ◌≤◌, length};
-ghost use Rattle.multilinear_util.specs.Storage.{scalars, view_scalars};
+ghost use Rattle.multilinear_util.specs.Storage.{scalars};
 
 use super::rings::{Row, quartics, residues};
 use mlu_ring::{ExtensionField, Field, PrimeCharacteristicRing};
-use mlu_test_support::numbers::{are, element};
-use mlu_test_tables::{point, table};
-use multilinear_util::poly::{PolyMaybePacked, PolyMaybePackedView};
+use mlu_test_support::numbers::are;
+use mlu_test_tables::table;
+use multilinear_util::poly::{Poly, PolyMaybePacked};
 use std::alloc::{AllocError, Global};
 use std::test::Fail;
 
-/// Whether the calls of the table see 1, 2, .., 8.
-fn is_seen<F: Field, EF: ExtensionField<F>>(
+/// 1, 2, .., 16: two packings of eight lanes.
+const COUNTED: [i32; 16] = [1, 2, 3, 4, 5, 6, 7, 8, 9, 10, 11, 12, 13, 14, 15, 16];
+
+/// Whether the table and its view have the sizes of 16 values.
+fn has_sizes<F: Field, EF: ExtensionField<F>>(table: &PolyMaybePacked<F, EF>) -> bool
+    requires { length (scalars EF.ExtensionPacking.ext_lanes table.now) ≡ 16 }
+{
+    let view = table.as_view().as_view();
+    table.num_variables() == 4
+        && table.num_scalar_evals() == 16
+        && view.num_variables() == 4
+        && view.num_scalar_evals() == 16
+}
+
+/// Whether the table writes 1, 2, .., 16 over zeros, and its view over the values turned.
+fn writes<F: Field, EF: ExtensionField<F>>(
     alloc: Global,
     table: &PolyMaybePacked<F, EF>,
 ) -> Result<bool, AllocError>
-    requires { length (scalars EF.ExtensionPacking.ext_lanes table.now) ≡ 8 }
+    requires { length (scalars EF.ExtensionPacking.ext_lanes table.now) ≡ 16 }
 {
-    let point = point::<EF>(alloc, &[2, 3, 5])?;
-    let mut out = EF::zero_vec(alloc, 8)?;
+    let mut out = EF::zero_vec(alloc, 16)?;
     table.unpack_into(out.as_mut_slice());
-    Ok(
-        table.num_variables() == 3
-            && table.num_scalar_evals() == 8
-            && table.eval(alloc, &point)? == element(20)
-            && are(&out, &[1, 2, 3, 4, 5, 6, 7, 8]),
-    )
+    let is_written = are(&out, &COUNTED);
+    out.as_mut_slice().reverse();
+    table.as_view().unpack_into(out.as_mut_slice());
+    Ok(is_written && are(&out, &COUNTED))
 }
 
-/// Whether the calls of a view see 1, 2, .., 8.
-fn is_viewed<F: Field, EF: ExtensionField<F>>(
-    alloc: Global,
-    view: PolyMaybePackedView<'_, F, EF>,
-) -> Result<bool, AllocError>
-    requires { length (view_scalars EF.ExtensionPacking.ext_lanes view) ≡ 8 }
-{
-    let point = point::<EF>(alloc, &[2, 3, 5])?;
-    let mut out = EF::zero_vec(alloc, 8)?;
-    view.unpack_into(out.as_mut_slice());
-    Ok(
-        view.num_variables() == 3
-            && view.num_scalar_evals() == 8
-            && view.eval(alloc, &point)? == element(20)
-            && are(&out, &[1, 2, 3, 4, 5, 6, 7, 8]),
-    )
-}
-
-/// Whether unpacking the table gives 1, 2, .., 8.
-fn is_unpacked<F: Field, EF: ExtensionField<F>>(
+/// Whether the table is unpacked into 1, 2, .., 16.
+fn unpacks<F: Field, EF: ExtensionField<F>>(
     alloc: Global,
     table: PolyMaybePacked<F, EF>,
 ) -> Result<bool, AllocError> {
     match table.unpack(alloc) {
-        Ok(poly) => Ok(are(poly.as_slice(), &[1, 2, 3, 4, 5, 6, 7, 8])),
+        Ok(poly) => Ok(are(poly.as_slice(), &COUNTED)),
         Err((_, error)) => Err(error),
     }
 }
 
-/// Whether the table 1, 2, .., 8 answers as it must, and a copy of it.
-fn answers<F: Field, EF: ExtensionField<F>>(
+/// Whether the table is 1, 2, .., 16, and a copy of it.
+fn shows<F: Field, EF: ExtensionField<F>>(
     alloc: Global,
     table: &PolyMaybePacked<F, EF>,
 ) -> Result<bool, AllocError>
-    requires { length (scalars EF.ExtensionPacking.ext_lanes table.now) ≡ 8 }
+    requires { length (scalars EF.ExtensionPacking.ext_lanes table.now) ≡ 16 }
 {
-    Ok(
-        is_seen(alloc, table)?
-            && is_viewed(alloc, table.as_view().as_view())?
-            && is_unpacked(alloc, table.try_clone(alloc)?)?,
-    )
+    Ok(has_sizes(table) && writes(alloc, table)? && unpacks(alloc, table.try_clone(alloc)?)?)
 }
 
-/// Whether the table 1, 2, .., 8 in scalar storage answers as it must.
-pub fn scalar<F: Field, EF: ExtensionField<F>>(alloc: Global) -> Result<bool, AllocError> {
-    let poly = table::<EF>(alloc, &[1, 2, 3, 4, 5, 6, 7, 8])?;
-    answers(alloc, &PolyMaybePacked::<F, EF>::from(poly))
+/// Whether the table 1, 2, .., 16 in scalar storage is what it must be.
+fn scalar<F: Field, EF: ExtensionField<F>>(alloc: Global) -> Result<bool, AllocError> {
+    let poly = table::<EF>(alloc, &COUNTED)?;
+    shows(alloc, &PolyMaybePacked::<F, EF>::from(poly))
 }
 
-/// Whether the table 1, 2, .., 8 in packed storage answers as it must.
-pub fn packed<F: Field, EF: ExtensionField<F>>(alloc: Global) -> Result<bool, AllocError>
-    requires { F.Packing.WIDTH ≤ 8 }
+/// Whether the table 1, 2, .., 16 in lanes is what it must be, and its lanes go over zeros.
+fn packed<F: Field, EF: ExtensionField<F>>(alloc: Global) -> Result<bool, AllocError>
+    requires { F.Packing.WIDTH ≤ 16 }
 {
-    let poly = table::<EF>(alloc, &[1, 2, 3, 4, 5, 6, 7, 8])?;
-    let packed = poly.pack::<F, EF>(alloc)?;
-    answers(alloc, &PolyMaybePacked::<F, EF>::Packed(packed))
+    let packed = table::<EF>(alloc, &COUNTED)?.pack::<F, EF>(alloc)?;
+    let mut written = Poly::<EF>::zero(alloc, 4)?;
+    packed.unpack_into::<F, EF>(&mut written);
+    let is_written = are(written.as_slice(), &COUNTED);
+    Ok(is_written && shows(alloc, &PolyMaybePacked::<F, EF>::Packed(packed))?)
+}
+
+/// Whether the table 1, 2, .., 16 is what it must be in both storages.
+pub fn both<F: Field, EF: ExtensionField<F>>(alloc: Global) -> Result<bool, AllocError>
+    requires { F.Packing.WIDTH ≤ 16 }
+{
+    Ok(scalar::<F, EF>(alloc)? && packed::<F, EF>(alloc)?)
 }
 
 #[test]
 fn both_storages(rt: HostRuntime) -> Result<(), Fail> {
-    assert!(rt; residues::<4>(rt.alloc(), Row::ScalarStorage)?);
-    assert!(rt; residues::<4>(rt.alloc(), Row::PackedStorage)?);
-    assert!(rt; quartics::<4>(rt.alloc(), Row::ScalarStorage)?);
-    assert!(rt; quartics::<4>(rt.alloc(), Row::PackedStorage)?);
+    assert!(rt; residues::<1>(rt.alloc(), Row::Storages)?);
+    assert!(rt; residues::<4>(rt.alloc(), Row::Storages)?);
+    assert!(rt; residues::<8>(rt.alloc(), Row::Storages)?);
+    assert!(rt; quartics::<1>(rt.alloc())?);
+    assert!(rt; quartics::<4>(rt.alloc())?);
     Ok(())
 }
