@@ -20,34 +20,31 @@ pub enum Call {
 }
 
 /// What becomes of the call. Fails where its inputs are refused.
-pub fn made<F: Field, EF: ExtensionField<F>>(
-    alloc: Global,
-    call: Call,
-) -> Result<Outcome, AllocError> {
+pub fn made<R: ExtensionField<R>>(alloc: Global, call: Call) -> Result<Outcome, AllocError> {
     match call {
-        Call::EvalEqBatch => batch::<F, EF>(alloc),
-        Call::EvalEqBaseBatch => base_batch::<F, EF>(alloc),
-        Call::EvalEqBatchInChunks => batch_in_chunks::<F, EF>(alloc),
-        Call::EvalEqBaseBatchInChunks => base_batch_in_chunks::<F, EF>(alloc),
-        Call::NoPoints => no_points::<F, EF>(alloc),
+        Call::EvalEqBatch => batch::<R>(alloc),
+        Call::EvalEqBaseBatch => base_batch::<R>(alloc),
+        Call::EvalEqBatchInChunks => batch_in_chunks::<R>(alloc),
+        Call::EvalEqBaseBatchInChunks => base_batch_in_chunks::<R>(alloc),
+        Call::NoPoints => no_points::<R>(alloc),
     }
 }
 
-fn batch<F: Field, EF: ExtensionField<F>>(alloc: Global) -> Result<Outcome, AllocError> {
-    let values: Vec<EF> = elements(alloc, &[1, 0, 1, 0, 1, 1])?;
-    let scalars: Vec<EF> = elements(alloc, &[2, 3, 5])?;
-    let mut out: Vec<EF> = elements(alloc, &[9, 9, 9, 9])?;
+fn batch<R: ExtensionField<R>>(alloc: Global) -> Result<Outcome, AllocError> {
+    let values: Vec<R> = elements(alloc, &[1, 0, 1, 0, 1, 1])?;
+    let scalars: Vec<R> = elements(alloc, &[2, 3, 5])?;
+    let mut out: Vec<R> = elements(alloc, &[9, 9, 9, 9])?;
     let matrix = RowMajorMatrixView::new(values.as_slice(), 3);
-    let done = eval_eq_batch::<F, EF, false>(alloc, matrix, out.as_mut_slice(), scalars.as_slice());
+    let done = eval_eq_batch::<R, R, false>(alloc, matrix, out.as_mut_slice(), scalars.as_slice());
     Ok(written(done, out.as_slice(), &[0, 3, 2, 5], &[9, 9, 9, 9]))
 }
 
-fn base_batch<F: Field, EF: ExtensionField<F>>(alloc: Global) -> Result<Outcome, AllocError> {
-    let values: Vec<F> = elements(alloc, &[1, 0, 0, 1])?;
-    let scalars: Vec<EF> = elements(alloc, &[2, 3])?;
-    let mut out: Vec<EF> = elements(alloc, &[1, 1, 1, 1])?;
+fn base_batch<R: ExtensionField<R>>(alloc: Global) -> Result<Outcome, AllocError> {
+    let values: Vec<R> = elements(alloc, &[1, 0, 0, 1])?;
+    let scalars: Vec<R> = elements(alloc, &[2, 3])?;
+    let mut out: Vec<R> = elements(alloc, &[1, 1, 1, 1])?;
     let matrix = RowMajorMatrixView::new(values.as_slice(), 2);
-    let done = eval_eq_base_batch::<F, EF, true>(
+    let done = eval_eq_base_batch::<R, R, true>(
         alloc,
         matrix,
         out.as_mut_slice(),
@@ -60,15 +57,15 @@ fn base_batch<F: Field, EF: ExtensionField<F>>(alloc: Global) -> Result<Outcome,
 const VERTICES: [i32; 10] = [1, 0, 0, 0, 0, 0, 1, 0, 1, 1];
 
 /// Two chunks, in lanes.
-fn batch_in_chunks<F: Field, EF: ExtensionField<F>>(alloc: Global) -> Result<Outcome, AllocError> {
-    let values: Vec<EF> = elements(alloc, &VERTICES)?;
-    let scalars: Vec<EF> = elements(alloc, &[2, 3])?;
-    let mut out: Vec<EF> = elements(alloc, &[9; 32])?;
+fn batch_in_chunks<R: ExtensionField<R>>(alloc: Global) -> Result<Outcome, AllocError> {
+    let values: Vec<R> = elements(alloc, &VERTICES)?;
+    let scalars: Vec<R> = elements(alloc, &[2, 3])?;
+    let mut out: Vec<R> = elements(alloc, &[9; 32])?;
     let mut after = [0; 32];
     after[19] = 2;
     after[1] = 3;
     let matrix = RowMajorMatrixView::new(values.as_slice(), 2);
-    let done = eval_eq_batch_in_chunks::<F, EF, false>(
+    let done = eval_eq_batch_in_chunks::<R, R, false>(
         alloc,
         matrix,
         out.as_mut_slice(),
@@ -78,17 +75,15 @@ fn batch_in_chunks<F: Field, EF: ExtensionField<F>>(alloc: Global) -> Result<Out
     Ok(written(done, out.as_slice(), &after, &[9; 32]))
 }
 
-fn base_batch_in_chunks<F: Field, EF: ExtensionField<F>>(
-    alloc: Global,
-) -> Result<Outcome, AllocError> {
-    let values: Vec<F> = elements(alloc, &VERTICES)?;
-    let scalars: Vec<EF> = elements(alloc, &[2, 3])?;
-    let mut out: Vec<EF> = elements(alloc, &[1; 32])?;
+fn base_batch_in_chunks<R: ExtensionField<R>>(alloc: Global) -> Result<Outcome, AllocError> {
+    let values: Vec<R> = elements(alloc, &VERTICES)?;
+    let scalars: Vec<R> = elements(alloc, &[2, 3])?;
+    let mut out: Vec<R> = elements(alloc, &[1; 32])?;
     let mut after = [1; 32];
     after[19] = 3;
     after[1] = 4;
     let matrix = RowMajorMatrixView::new(values.as_slice(), 2);
-    let done = eval_eq_base_batch_in_chunks::<F, EF, true>(
+    let done = eval_eq_base_batch_in_chunks::<R, R, true>(
         alloc,
         matrix,
         out.as_mut_slice(),
@@ -99,11 +94,11 @@ fn base_batch_in_chunks<F: Field, EF: ExtensionField<F>>(
 }
 
 /// Does not fail.
-fn no_points<F: Field, EF: ExtensionField<F>>(alloc: Global) -> Result<Outcome, AllocError> {
-    let mut out: Vec<EF> = elements(alloc, &[9, 9, 9])?;
-    let none: RowMajorMatrixView<'_, EF> = RowMajorMatrixView::new(&[], 0);
-    let added = eval_eq_batch::<F, EF, true>(alloc, none, out.as_mut_slice(), &[]);
-    let added_in_chunks = eval_eq_batch_in_chunks::<F, EF, true>(
+fn no_points<R: ExtensionField<R>>(alloc: Global) -> Result<Outcome, AllocError> {
+    let mut out: Vec<R> = elements(alloc, &[9, 9, 9])?;
+    let none: RowMajorMatrixView<'_, R> = RowMajorMatrixView::new(&[], 0);
+    let added = eval_eq_batch::<R, R, true>(alloc, none, out.as_mut_slice(), &[]);
+    let added_in_chunks = eval_eq_batch_in_chunks::<R, R, true>(
         alloc,
         none,
         out.as_mut_slice(),
@@ -111,9 +106,9 @@ fn no_points<F: Field, EF: ExtensionField<F>>(alloc: Global) -> Result<Outcome, 
         1,
     );
     let kept = are(out.as_slice(), &[9, 9, 9]);
-    let base: RowMajorMatrixView<'_, F> = RowMajorMatrixView::new(&[], 0);
-    let cleared = eval_eq_base_batch::<F, EF, false>(alloc, base, out.as_mut_slice(), &[]);
-    let cleared_in_chunks = eval_eq_base_batch_in_chunks::<F, EF, false>(
+    let base: RowMajorMatrixView<'_, R> = RowMajorMatrixView::new(&[], 0);
+    let cleared = eval_eq_base_batch::<R, R, false>(alloc, base, out.as_mut_slice(), &[]);
+    let cleared_in_chunks = eval_eq_base_batch_in_chunks::<R, R, false>(
         alloc,
         base,
         out.as_mut_slice(),

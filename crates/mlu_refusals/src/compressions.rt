@@ -19,14 +19,11 @@ pub enum Call {
 }
 
 /// What becomes of the call. Fails where its inputs are refused.
-pub fn made<F: Field, EF: ExtensionField<F>>(
-    alloc: Global,
-    call: Call,
-) -> Result<Outcome, AllocError>
-    requires { F.Packing.WIDTH ≡ 4 }
+pub fn made<R: ExtensionField<R>>(alloc: Global, call: Call) -> Result<Outcome, AllocError>
+    requires { R.Packing.WIDTH ≡ 4 }
 {
-    let point = short_point::<EF>(alloc)?;
-    let poly = poly::<F>(alloc)?;
+    let point = short_point::<R>(alloc)?;
+    let poly = poly::<R>(alloc)?;
     let answered = match call {
         Call::Prefix(receiver) => prefix(alloc, receiver, &poly, &point),
         Call::PrefixToPacked(receiver) => prefix_to_packed(alloc, receiver, &poly, &point),
@@ -35,47 +32,44 @@ pub fn made<F: Field, EF: ExtensionField<F>>(
     Ok(judge(answered, is_poly(poly.as_slice())))
 }
 
-fn prefix<F: Field, EF: ExtensionField<F>>(
+fn prefix<R: ExtensionField<R>>(
     alloc: Global,
     receiver: Receiver,
-    poly: &Poly<F>,
-    point: &Point<EF>,
+    poly: &Poly<R>,
+    point: &Point<R>,
 ) -> Result<bool, AllocError>
     requires poly { length poly.now ≡ 8 }
     requires point { length point.now ≡ 1 }
 {
     let left = match receiver {
-        Receiver::Owner => poly.compress_prefix(alloc, point, EF::ONE),
-        Receiver::View => poly.as_view().compress_prefix(alloc, point, EF::ONE),
+        Receiver::Owner => poly.compress_prefix(alloc, point, R::ONE),
+        Receiver::View => poly.as_view().compress_prefix(alloc, point, R::ONE),
     }?;
     Ok(are(left.as_slice(), &[9, 10, 11, 12]))
 }
 
-fn prefix_to_packed<F: Field, EF: ExtensionField<F>>(
+fn prefix_to_packed<R: ExtensionField<R>>(
     alloc: Global,
     receiver: Receiver,
-    poly: &Poly<F>,
-    point: &Point<EF>,
+    poly: &Poly<R>,
+    point: &Point<R>,
 ) -> Result<bool, AllocError>
-    requires lanes { F.Packing.WIDTH ≡ 4 }
+    requires lanes { R.Packing.WIDTH ≡ 4 }
     requires poly { length poly.now ≡ 8 }
     requires point { length point.now ≡ 1 }
 {
     let left = match receiver {
-        Receiver::Owner => poly.compress_prefix_to_packed(alloc, point, EF::ONE),
+        Receiver::Owner => poly.compress_prefix_to_packed(alloc, point, R::ONE),
         Receiver::View => poly
             .as_view()
-            .compress_prefix_to_packed(alloc, point, EF::ONE),
+            .compress_prefix_to_packed(alloc, point, R::ONE),
     }?;
-    Ok(has_lanes::<F, EF>(left.as_slice(), &[9, 10, 11, 12]))
+    Ok(has_lanes::<R>(left.as_slice(), &[9, 10, 11, 12]))
 }
 
 /// Whether the lanes are the images of the numbers.
-pub fn has_lanes<F: Field, EF: ExtensionField<F>>(
-    packed: &[EF::ExtensionPacking],
-    numbers: &[i32],
-) -> bool {
-    let mut lanes = EF::ExtensionPacking::to_ext_iter(packed);
+pub fn has_lanes<R: ExtensionField<R>>(packed: &[R::ExtensionPacking], numbers: &[i32]) -> bool {
+    let mut lanes = R::ExtensionPacking::to_ext_iter(packed);
     for number in numbers {
         if lanes.next() != Some(element(*number)) {
             return false;
@@ -84,18 +78,18 @@ pub fn has_lanes<F: Field, EF: ExtensionField<F>>(
     lanes.next().is_none()
 }
 
-fn suffix<F: Field, EF: ExtensionField<F>>(
+fn suffix<R: ExtensionField<R>>(
     alloc: Global,
     receiver: Receiver,
-    poly: &Poly<F>,
-    point: &Point<EF>,
+    poly: &Poly<R>,
+    point: &Point<R>,
 ) -> Result<bool, AllocError>
     requires poly { length poly.now ≡ 8 }
     requires point { length point.now ≡ 1 }
 {
     let left = match receiver {
-        Receiver::Owner => poly.compress_suffix(alloc, point, EF::ONE),
-        Receiver::View => poly.as_view().compress_suffix(alloc, point, EF::ONE),
+        Receiver::Owner => poly.compress_suffix(alloc, point, R::ONE),
+        Receiver::View => poly.as_view().compress_suffix(alloc, point, R::ONE),
     }?;
     Ok(are(left.as_slice(), &[3, 5, 7, 9]))
 }

@@ -22,17 +22,14 @@ pub enum Call {
 }
 
 /// What becomes of the call. Fails where its inputs are refused.
-pub fn made<F: Field, EF: ExtensionField<F>>(
-    alloc: Global,
-    call: Call,
-) -> Result<Outcome, AllocError> {
+pub fn made<R: ExtensionField<R>>(alloc: Global, call: Call) -> Result<Outcome, AllocError> {
     match call {
-        Call::Below => below::<F, EF>(alloc),
-        Call::EvalBase(receiver) => eval_base::<F, EF>(alloc, receiver),
-        Call::EvalBaseOfTen => eval_base_of_ten::<F, EF>(alloc),
-        Call::EvalExt(receiver) => eval_ext::<F, EF>(alloc, receiver),
-        Call::EvalStorage(receiver) => eval_storage::<F, EF>(alloc, receiver),
-        Call::CloneStorage => clone_storage::<F, EF>(alloc),
+        Call::Below => below::<R>(alloc),
+        Call::EvalBase(receiver) => eval_base::<R>(alloc, receiver),
+        Call::EvalBaseOfTen => eval_base_of_ten::<R>(alloc),
+        Call::EvalExt(receiver) => eval_ext::<R>(alloc, receiver),
+        Call::EvalStorage(receiver) => eval_storage::<R>(alloc, receiver),
+        Call::CloneStorage => clone_storage::<R>(alloc),
     }
 }
 
@@ -68,21 +65,21 @@ fn valued<R: Additive>(answer: Result<R, AllocError>, number: i32) -> Outcome {
 }
 
 /// Does not fail.
-fn below<F: Field, EF: ExtensionField<F>>(alloc: Global) -> Result<Outcome, AllocError> {
-    let point: Point<EF> = Point::new(elements(alloc, &[2; 8])?);
-    let base = counted::<F>(alloc, 256)?;
+fn below<R: ExtensionField<R>>(alloc: Global) -> Result<Outcome, AllocError> {
+    let point: Point<R> = Point::new(elements(alloc, &[2; 8])?);
+    let base = counted::<R>(alloc, 256)?;
     let of_base = base.eval_base(alloc, &point) == Ok(element(510));
-    let poly = counted::<EF>(alloc, 256)?;
-    let of_extension = poly.eval_ext::<F>(alloc, &point) == Ok(element(510));
+    let poly = counted::<R>(alloc, 256)?;
+    let of_extension = poly.eval_ext::<R>(alloc, &point) == Ok(element(510));
     Ok(judge(Ok(of_base), of_extension))
 }
 
-fn eval_base<F: Field, EF: ExtensionField<F>>(
+fn eval_base<R: ExtensionField<R>>(
     alloc: Global,
     receiver: Receiver,
 ) -> Result<Outcome, AllocError> {
-    let poly = counted::<F>(alloc, 512)?;
-    let point = long_point::<EF>(alloc)?;
+    let poly = counted::<R>(alloc, 512)?;
+    let point = long_point::<R>(alloc)?;
     let answer = match receiver {
         Receiver::Owner => poly.eval_base(alloc, &point),
         Receiver::View => poly.as_view().eval_base(alloc, &point),
@@ -91,32 +88,32 @@ fn eval_base<F: Field, EF: ExtensionField<F>>(
 }
 
 /// At ten variables, the threshold of words.
-fn eval_base_of_ten<F: Field, EF: ExtensionField<F>>(alloc: Global) -> Result<Outcome, AllocError> {
-    let poly = counted::<F>(alloc, 1024)?;
-    let point: Point<EF> = Point::new(elements(alloc, &[2; 10])?);
+fn eval_base_of_ten<R: ExtensionField<R>>(alloc: Global) -> Result<Outcome, AllocError> {
+    let poly = counted::<R>(alloc, 1024)?;
+    let point: Point<R> = Point::new(elements(alloc, &[2; 10])?);
     Ok(valued(poly.eval_base(alloc, &point), 2046))
 }
 
-fn eval_ext<F: Field, EF: ExtensionField<F>>(
+fn eval_ext<R: ExtensionField<R>>(
     alloc: Global,
     receiver: Receiver,
 ) -> Result<Outcome, AllocError> {
-    let poly = counted::<EF>(alloc, 512)?;
-    let point = long_point::<EF>(alloc)?;
+    let poly = counted::<R>(alloc, 512)?;
+    let point = long_point::<R>(alloc)?;
     let answer = match receiver {
-        Receiver::Owner => poly.eval_ext::<F>(alloc, &point),
-        Receiver::View => poly.as_view().eval_ext::<F>(alloc, &point),
+        Receiver::Owner => poly.eval_ext::<R>(alloc, &point),
+        Receiver::View => poly.as_view().eval_ext::<R>(alloc, &point),
     };
     Ok(valued(answer, 1022))
 }
 
 /// A scalar storage from the threshold on, where its evaluation takes memory.
-fn eval_storage<F: Field, EF: ExtensionField<F>>(
+fn eval_storage<R: ExtensionField<R>>(
     alloc: Global,
     receiver: Receiver,
 ) -> Result<Outcome, AllocError> {
-    let storage: PolyMaybePacked<F, EF> = PolyMaybePacked::Scalar(counted::<EF>(alloc, 512)?);
-    let point = long_point::<EF>(alloc)?;
+    let storage: PolyMaybePacked<R, R> = PolyMaybePacked::Scalar(counted::<R>(alloc, 512)?);
+    let point = long_point::<R>(alloc)?;
     let answer = match receiver {
         Receiver::Owner => storage.eval(alloc, &point),
         Receiver::View => storage.as_view().eval(alloc, &point),
@@ -124,8 +121,8 @@ fn eval_storage<F: Field, EF: ExtensionField<F>>(
     Ok(valued(answer, 1022))
 }
 
-fn clone_storage<F: Field, EF: ExtensionField<F>>(alloc: Global) -> Result<Outcome, AllocError> {
-    let storage: PolyMaybePacked<F, EF> = PolyMaybePacked::Scalar(counted::<EF>(alloc, 512)?);
+fn clone_storage<R: ExtensionField<R>>(alloc: Global) -> Result<Outcome, AllocError> {
+    let storage: PolyMaybePacked<R, R> = PolyMaybePacked::Scalar(counted::<R>(alloc, 512)?);
     Ok(match storage.try_clone(alloc) {
         Ok(copy) => judge(Ok(copy.num_variables() == 9), true),
         Err(refused) => judge(Err(refused), true),

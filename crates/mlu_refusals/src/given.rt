@@ -53,13 +53,11 @@ pub fn is_poly<R: Additive>(values: &[R]) -> bool {
 }
 
 /// The polynomial with the values 1, 2, .., 8, in lanes.
-pub fn packed<F: Field, EF: ExtensionField<F>>(
-    alloc: Global,
-) -> Result<Poly<EF::ExtensionPacking>, AllocError>
-    requires { F.Packing.WIDTH ≡ 4 }
-    ensures { IfOk result (λ poly. length poly * F.Packing.WIDTH ≡ 8) }
+pub fn packed<R: ExtensionField<R>>(alloc: Global) -> Result<Poly<R::ExtensionPacking>, AllocError>
+    requires { R.Packing.WIDTH ≡ 4 }
+    ensures { IfOk result (λ poly. length poly * R.Packing.WIDTH ≡ 8) }
 {
-    let packed = poly::<EF>(alloc)?.pack::<F, EF>(alloc)?;
+    let packed = poly::<R>(alloc)?.pack::<R, R>(alloc)?;
     if packed.num_evals() != 2 {
         return Err(AllocError);
     }

@@ -22,139 +22,128 @@ pub enum Call {
 }
 
 /// What becomes of the call. Fails where its inputs are refused.
-pub fn made<F: Field, EF: ExtensionField<F>>(
-    alloc: Global,
-    call: Call,
-) -> Result<Outcome, AllocError>
-    requires { F.Packing.WIDTH ≡ 4 }
+pub fn made<R: ExtensionField<R>>(alloc: Global, call: Call) -> Result<Outcome, AllocError>
+    requires { R.Packing.WIDTH ≡ 4 }
 {
     match call {
-        Call::Pack(receiver) => pack::<F, EF>(alloc, receiver),
-        Call::Unpack(receiver) => unpack::<F, EF>(alloc, receiver),
-        Call::UnpackStorage => unpack_storage::<F, EF>(alloc),
-        Call::EvalPacked(receiver) => eval_packed::<F, EF>(alloc, receiver),
-        Call::EvalStorage(receiver) => eval_storage::<F, EF>(alloc, receiver),
-        Call::CloneStorage => clone_storage::<F, EF>(alloc),
+        Call::Pack(receiver) => pack::<R>(alloc, receiver),
+        Call::Unpack(receiver) => unpack::<R>(alloc, receiver),
+        Call::UnpackStorage => unpack_storage::<R>(alloc),
+        Call::EvalPacked(receiver) => eval_packed::<R>(alloc, receiver),
+        Call::EvalStorage(receiver) => eval_storage::<R>(alloc, receiver),
+        Call::CloneStorage => clone_storage::<R>(alloc),
     }
 }
 
 /// Whether the values are packed.
-fn is_packed<F: Field, EF: ExtensionField<F>>(
+fn is_packed<R: ExtensionField<R>>(
     alloc: Global,
     receiver: Receiver,
-    poly: &Poly<EF>,
+    poly: &Poly<R>,
 ) -> Result<bool, AllocError>
-    requires lanes { F.Packing.WIDTH ≡ 4 }
+    requires lanes { R.Packing.WIDTH ≡ 4 }
     requires poly { length poly.now ≡ 8 }
 {
     let packed = match receiver {
-        Receiver::Owner => poly.pack::<F, EF>(alloc),
-        Receiver::View => poly.as_view().pack::<F, EF>(alloc),
+        Receiver::Owner => poly.pack::<R, R>(alloc),
+        Receiver::View => poly.as_view().pack::<R, R>(alloc),
     }?;
     Ok(packed.num_evals() == 2)
 }
 
-fn pack<F: Field, EF: ExtensionField<F>>(
-    alloc: Global,
-    receiver: Receiver,
-) -> Result<Outcome, AllocError>
-    requires { F.Packing.WIDTH ≡ 4 }
+fn pack<R: ExtensionField<R>>(alloc: Global, receiver: Receiver) -> Result<Outcome, AllocError>
+    requires { R.Packing.WIDTH ≡ 4 }
 {
-    let poly = poly::<EF>(alloc)?;
-    let answered = is_packed::<F, EF>(alloc, receiver, &poly);
+    let poly = poly::<R>(alloc)?;
+    let answered = is_packed::<R>(alloc, receiver, &poly);
     Ok(judge(answered, is_poly(poly.as_slice())))
 }
 
 /// Whether the lanes are unpacked.
-fn is_unpacked<F: Field, EF: ExtensionField<F>>(
+fn is_unpacked<R: ExtensionField<R>>(
     alloc: Global,
     receiver: Receiver,
-    packed: &Poly<EF::ExtensionPacking>,
+    packed: &Poly<R::ExtensionPacking>,
 ) -> Result<bool, AllocError> {
     let poly = match receiver {
-        Receiver::Owner => packed.unpack::<F, EF>(alloc),
-        Receiver::View => packed.as_view().unpack::<F, EF>(alloc),
+        Receiver::Owner => packed.unpack::<R, R>(alloc),
+        Receiver::View => packed.as_view().unpack::<R, R>(alloc),
     }?;
     Ok(is_poly(poly.as_slice()))
 }
 
-fn unpack<F: Field, EF: ExtensionField<F>>(
-    alloc: Global,
-    receiver: Receiver,
-) -> Result<Outcome, AllocError>
-    requires { F.Packing.WIDTH ≡ 4 }
+fn unpack<R: ExtensionField<R>>(alloc: Global, receiver: Receiver) -> Result<Outcome, AllocError>
+    requires { R.Packing.WIDTH ≡ 4 }
 {
-    let packed = packed::<F, EF>(alloc)?;
-    Ok(judge(is_unpacked::<F, EF>(alloc, receiver, &packed), true))
+    let packed = packed::<R>(alloc)?;
+    Ok(judge(is_unpacked::<R>(alloc, receiver, &packed), true))
 }
 
 /// Whether the storage has the values 1, 2, .., 8.
-fn stores_poly<F: Field, EF: ExtensionField<F>>(
+fn stores_poly<R: ExtensionField<R>>(
     alloc: Global,
-    table: &PolyMaybePacked<F, EF>,
+    table: &PolyMaybePacked<R, R>,
 ) -> Result<bool, AllocError> {
     match table {
-        PolyMaybePacked::Packed(packed) => is_unpacked::<F, EF>(alloc, Receiver::Owner, packed),
+        PolyMaybePacked::Packed(packed) => is_unpacked::<R>(alloc, Receiver::Owner, packed),
         PolyMaybePacked::Scalar(poly) => Ok(is_poly(poly.as_slice())),
     }
 }
 
 /// A refused unpacking hands the packed table back.
-fn unpack_storage<F: Field, EF: ExtensionField<F>>(alloc: Global) -> Result<Outcome, AllocError>
-    requires { F.Packing.WIDTH ≡ 4 }
+fn unpack_storage<R: ExtensionField<R>>(alloc: Global) -> Result<Outcome, AllocError>
+    requires { R.Packing.WIDTH ≡ 4 }
 {
-    let table: PolyMaybePacked<F, EF> = PolyMaybePacked::Packed(packed::<F, EF>(alloc)?);
+    let table: PolyMaybePacked<R, R> = PolyMaybePacked::Packed(packed::<R>(alloc)?);
     match table.unpack(alloc) {
         Ok(unpacked) => Ok(judge(Ok(is_poly(unpacked.as_slice())), true)),
         Err((table, refused)) => Ok(judge(Err(refused), stores_poly(alloc, &table)?)),
     }
 }
 
-fn value_of_lanes<F: Field, EF: ExtensionField<F>>(
+fn value_of_lanes<R: ExtensionField<R>>(
     alloc: Global,
     receiver: Receiver,
-    packed: &Poly<EF::ExtensionPacking>,
-    point: &Point<EF>,
+    packed: &Poly<R::ExtensionPacking>,
+    point: &Point<R>,
 ) -> Result<bool, AllocError>
-    requires lanes { length packed.now * F.Packing.WIDTH ≡ 8 }
+    requires lanes { length packed.now * R.Packing.WIDTH ≡ 8 }
     requires point { length point.now ≡ 3 }
 {
     let value = match receiver {
-        Receiver::Owner => packed.eval_packed::<F, EF>(alloc, point),
-        Receiver::View => packed.as_view().eval_packed::<F, EF>(alloc, point),
+        Receiver::Owner => packed.eval_packed::<R, R>(alloc, point),
+        Receiver::View => packed.as_view().eval_packed::<R, R>(alloc, point),
     }?;
     Ok(value == element(20))
 }
 
-fn eval_packed<F: Field, EF: ExtensionField<F>>(
+fn eval_packed<R: ExtensionField<R>>(
     alloc: Global,
     receiver: Receiver,
 ) -> Result<Outcome, AllocError>
-    requires { F.Packing.WIDTH ≡ 4 }
+    requires { R.Packing.WIDTH ≡ 4 }
 {
-    let point = point::<EF>(alloc)?;
-    let packed = packed::<F, EF>(alloc)?;
-    let answered = value_of_lanes::<F, EF>(alloc, receiver, &packed, &point);
+    let point = point::<R>(alloc)?;
+    let packed = packed::<R>(alloc)?;
+    let answered = value_of_lanes::<R>(alloc, receiver, &packed, &point);
     Ok(judge(answered, true))
 }
 
 /// The storage with the values 1, 2, .., 8, in lanes.
-fn storage<F: Field, EF: ExtensionField<F>>(
-    alloc: Global,
-) -> Result<PolyMaybePacked<F, EF>, AllocError>
-    requires { F.Packing.WIDTH ≡ 4 }
+fn storage<R: ExtensionField<R>>(alloc: Global) -> Result<PolyMaybePacked<R, R>, AllocError>
+    requires { R.Packing.WIDTH ≡ 4 }
 {
-    Ok(PolyMaybePacked::Packed(packed::<F, EF>(alloc)?))
+    Ok(PolyMaybePacked::Packed(packed::<R>(alloc)?))
 }
 
-fn eval_storage<F: Field, EF: ExtensionField<F>>(
+fn eval_storage<R: ExtensionField<R>>(
     alloc: Global,
     receiver: Receiver,
 ) -> Result<Outcome, AllocError>
-    requires { F.Packing.WIDTH ≡ 4 }
+    requires { R.Packing.WIDTH ≡ 4 }
 {
-    let point = point::<EF>(alloc)?;
-    let storage = storage::<F, EF>(alloc)?;
+    let point = point::<R>(alloc)?;
+    let storage = storage::<R>(alloc)?;
     if storage.num_variables() != point.num_variables() {
         return Err(AllocError);
     }
@@ -168,10 +157,10 @@ fn eval_storage<F: Field, EF: ExtensionField<F>>(
     })
 }
 
-fn clone_storage<F: Field, EF: ExtensionField<F>>(alloc: Global) -> Result<Outcome, AllocError>
-    requires { F.Packing.WIDTH ≡ 4 }
+fn clone_storage<R: ExtensionField<R>>(alloc: Global) -> Result<Outcome, AllocError>
+    requires { R.Packing.WIDTH ≡ 4 }
 {
-    let storage = storage::<F, EF>(alloc)?;
+    let storage = storage::<R>(alloc)?;
     Ok(match storage.try_clone(alloc) {
         Ok(copy) => judge(Ok(copy.num_variables() == 3), true),
         Err(refused) => judge(Err(refused), true),

@@ -26,27 +26,24 @@ pub enum Call {
 }
 
 /// What becomes of the call. Fails where its inputs are refused.
-pub fn made<F: Field + Sample, EF: ExtensionField<F>>(
-    alloc: Global,
-    call: Call,
-) -> Result<Outcome, AllocError>
-    requires lanes { F.Packing.WIDTH ≡ 4 }
-    requires log_lanes { F.Packing.LOG_WIDTH ≡ 2 }
+pub fn made<R: ExtensionField<R> + Sample>(alloc: Global, call: Call) -> Result<Outcome, AllocError>
+    requires lanes { R.Packing.WIDTH ≡ 4 }
+    requires log_lanes { R.Packing.LOG_WIDTH ≡ 2 }
 {
-    let poly = poly::<F>(alloc)?;
+    let poly = poly::<R>(alloc)?;
     let answered = match call {
-        Call::Zero => zero::<F>(alloc),
+        Call::Zero => zero::<R>(alloc),
         Call::PadZeros => return Ok(pad_zeros(poly)),
-        Call::Rand => rand::<F>(alloc),
+        Call::Rand => rand::<R>(alloc),
         Call::TryClone => try_clone(alloc, &poly),
         Call::NewFromPoint => new_from_point(alloc, poly.as_slice()),
-        Call::NewPackedFromPoint => return new_packed_from_point::<F, EF>(alloc),
-        Call::FixPrefixVar(receiver) => fix_prefix_var::<F, EF>(alloc, receiver, &poly),
+        Call::NewPackedFromPoint => return new_packed_from_point::<R>(alloc),
+        Call::FixPrefixVar(receiver) => fix_prefix_var::<R>(alloc, receiver, &poly),
         Call::FixPrefixVarToPacked(receiver) => {
-            fix_prefix_var_to_packed::<F, EF>(alloc, receiver, &poly)
+            fix_prefix_var_to_packed::<R>(alloc, receiver, &poly)
         }
-        Call::FixSuffixVar(receiver) => fix_suffix_var::<F, EF>(alloc, receiver, &poly),
-        Call::FixSuffixVarMutSplit => return fix_suffix_var_mut_split::<F, EF>(alloc),
+        Call::FixSuffixVar(receiver) => fix_suffix_var::<R>(alloc, receiver, &poly),
+        Call::FixSuffixVarMutSplit => return fix_suffix_var_mut_split::<R>(alloc),
     };
     Ok(judge(answered, is_poly(poly.as_slice())))
 }
@@ -88,76 +85,71 @@ fn new_from_point<R: PrimeCharacteristicRing>(
     Ok(are(table.as_slice(), &[10, -15, -20, 30]))
 }
 
-fn new_packed_from_point<F: Field, EF: ExtensionField<F>>(
-    alloc: Global,
-) -> Result<Outcome, AllocError>
-    requires { F.Packing.LOG_WIDTH ≡ 2 }
+fn new_packed_from_point<R: ExtensionField<R>>(alloc: Global) -> Result<Outcome, AllocError>
+    requires { R.Packing.LOG_WIDTH ≡ 2 }
 {
-    let point = point::<EF>(alloc)?;
-    let answered = packed_table::<F, EF>(alloc, point.as_slice());
+    let point = point::<R>(alloc)?;
+    let answered = packed_table::<R>(alloc, point.as_slice());
     Ok(judge(answered, true))
 }
 
-fn packed_table<F: Field, EF: ExtensionField<F>>(
-    alloc: Global,
-    point: &[EF],
-) -> Result<bool, AllocError>
-    requires lanes { F.Packing.LOG_WIDTH ≡ 2 }
+fn packed_table<R: ExtensionField<R>>(alloc: Global, point: &[R]) -> Result<bool, AllocError>
+    requires lanes { R.Packing.LOG_WIDTH ≡ 2 }
     requires point { length point.now ≡ 3 }
 {
-    let table = Poly::new_packed_from_point::<F, EF>(alloc, point, EF::ONE)?;
+    let table = Poly::new_packed_from_point::<R, R>(alloc, point, R::ONE)?;
     Ok(table.num_evals() == 2)
 }
 
-fn fix_prefix_var<F: PrimeCharacteristicRing, EF: Algebra<F>>(
+fn fix_prefix_var<R: PrimeCharacteristicRing + Algebra<R>>(
     alloc: Global,
     receiver: Receiver,
-    poly: &Poly<F>,
+    poly: &Poly<R>,
 ) -> Result<bool, AllocError>
     requires { length poly.now ≡ 8 }
 {
     let left = match receiver {
-        Receiver::Owner => poly.fix_prefix_var(alloc, EF::TWO),
-        Receiver::View => poly.as_view().fix_prefix_var(alloc, EF::TWO),
+        Receiver::Owner => poly.fix_prefix_var(alloc, R::TWO),
+        Receiver::View => poly.as_view().fix_prefix_var(alloc, R::TWO),
     }?;
     Ok(are(left.as_slice(), &[9, 10, 11, 12]))
 }
 
-fn fix_prefix_var_to_packed<F: Field, EF: ExtensionField<F>>(
+fn fix_prefix_var_to_packed<R: ExtensionField<R>>(
     alloc: Global,
     receiver: Receiver,
-    poly: &Poly<F>,
+    poly: &Poly<R>,
 ) -> Result<bool, AllocError>
-    requires lanes { F.Packing.WIDTH ≡ 4 }
+    requires lanes { R.Packing.WIDTH ≡ 4 }
     requires poly { length poly.now ≡ 8 }
 {
     let left = match receiver {
-        Receiver::Owner => poly.fix_prefix_var_to_packed(alloc, EF::TWO),
-        Receiver::View => poly.as_view().fix_prefix_var_to_packed(alloc, EF::TWO),
+        Receiver::Owner => poly.fix_prefix_var_to_packed(alloc, R::TWO),
+        Receiver::View => poly.as_view().fix_prefix_var_to_packed(alloc, R::TWO),
     }?;
     Ok(left.num_evals() == 1)
 }
 
-fn fix_suffix_var<F: PrimeCharacteristicRing, EF: Algebra<F>>(
+fn fix_suffix_var<R: PrimeCharacteristicRing + Algebra<R>>(
     alloc: Global,
     receiver: Receiver,
-    poly: &Poly<F>,
+    poly: &Poly<R>,
 ) -> Result<bool, AllocError>
     requires { length poly.now ≡ 8 }
 {
     let left = match receiver {
-        Receiver::Owner => poly.fix_suffix_var(alloc, EF::TWO),
-        Receiver::View => poly.as_view().fix_suffix_var(alloc, EF::TWO),
+        Receiver::Owner => poly.fix_suffix_var(alloc, R::TWO),
+        Receiver::View => poly.as_view().fix_suffix_var(alloc, R::TWO),
     }?;
     Ok(are(left.as_slice(), &[3, 5, 7, 9]))
 }
 
 /// A refused fold leaves the polynomial as it was.
-fn fix_suffix_var_mut_split<F: PrimeCharacteristicRing, EF: Algebra<F>>(
+fn fix_suffix_var_mut_split<R: PrimeCharacteristicRing + Algebra<R>>(
     alloc: Global,
 ) -> Result<Outcome, AllocError> {
-    let mut poly = poly::<EF>(alloc)?;
-    let done = poly.fix_suffix_var_mut_split(alloc, F::TWO);
+    let mut poly = poly::<R>(alloc)?;
+    let done = poly.fix_suffix_var_mut_split(alloc, R::TWO);
     Ok(written(
         done,
         poly.as_slice(),

@@ -32,40 +32,40 @@ pub enum Call {
 }
 
 /// What becomes of the call. Fails where its inputs are refused.
-fn made<F: Field + Sample, EF: ExtensionField<F> + SelfAlgebra, R: ExtensionField<R> + MapFrom<EF>>(
+fn made<R: ExtensionField<R> + Sample + SelfAlgebra + MapFrom<R>>(
     alloc: Global,
     call: Call,
 ) -> Result<Outcome, AllocError>
-    requires lanes { F.Packing.WIDTH ≡ 4 }
-    requires log_lanes { F.Packing.LOG_WIDTH ≡ 2 }
+    requires lanes { R.Packing.WIDTH ≡ 4 }
+    requires log_lanes { R.Packing.LOG_WIDTH ≡ 2 }
 {
     match call {
-        Call::Batch(call) => batches::made::<F, EF>(alloc, call),
-        Call::Point(call) => points::made::<F>(alloc, call),
-        Call::View(call) => views::made::<F>(alloc, call),
-        Call::Poly(call) => polys::made::<F, EF>(alloc, call),
-        Call::Packing(call) => packings::made::<F, EF>(alloc, call),
-        Call::Compression(call) => compressions::made::<F, EF>(alloc, call),
-        Call::Evaluation(call) => evaluations::made::<F, EF>(alloc, call),
-        Call::Run(call) => runs::made::<F, EF>(alloc, call),
-        Call::Split(call) => splits::made::<F, EF>(alloc, call),
-        Call::Successor(call) => successors::made::<F, EF>(alloc, call),
-        Call::Sumcheck => sumchecks::made::<F, EF>(alloc),
-        Call::ToField => splits::converted::<F, EF, R>(alloc, false),
-        Call::PackedToField => splits::converted::<F, EF, R>(alloc, true),
-        Call::Unfailing(call) => unfailing::made::<F, EF>(alloc, call),
+        Call::Batch(call) => batches::made::<R>(alloc, call),
+        Call::Point(call) => points::made::<R>(alloc, call),
+        Call::View(call) => views::made::<R>(alloc, call),
+        Call::Poly(call) => polys::made::<R>(alloc, call),
+        Call::Packing(call) => packings::made::<R>(alloc, call),
+        Call::Compression(call) => compressions::made::<R>(alloc, call),
+        Call::Evaluation(call) => evaluations::made::<R>(alloc, call),
+        Call::Run(call) => runs::made::<R>(alloc, call),
+        Call::Split(call) => splits::made::<R>(alloc, call),
+        Call::Successor(call) => successors::made::<R>(alloc, call),
+        Call::Sumcheck => sumchecks::made::<R>(alloc),
+        Call::ToField => splits::converted::<R>(alloc, false),
+        Call::PackedToField => splits::converted::<R>(alloc, true),
+        Call::Unfailing(call) => unfailing::made::<R>(alloc, call),
         Call::Words(call) => words(alloc, call),
     }
 }
 
 /// What becomes of an evaluation at words.
 fn words(alloc: Global, call: evaluations::Call) -> Result<Outcome, AllocError> {
-    evaluations::made::<WrappingU64<4>, WrappingU64<4>>(alloc, call)
+    evaluations::made::<WrappingU64<4>>(alloc, call)
 }
 
 /// What becomes of the call at residues.
 pub fn residues(alloc: Global, call: Call) -> Result<Outcome, AllocError> {
-    made::<BabyBear<4>, BabyBear<4>, BabyBear<4>>(alloc, call)
+    made::<BabyBear<4>>(alloc, call)
 }
 
 /// The test of a call: makes it at residues, and says its name with what became of it. Says nothing

@@ -25,14 +25,11 @@ pub enum Call {
 const COUNTED: [i32; 16] = [1, 2, 3, 4, 5, 6, 7, 8, 9, 10, 11, 12, 13, 14, 15, 16];
 
 /// What becomes of the call. Fails where its inputs are refused.
-pub fn made<F: Field, EF: ExtensionField<F>>(
-    alloc: Global,
-    call: Call,
-) -> Result<Outcome, AllocError>
-    requires { F.Packing.WIDTH ≡ 4 }
+pub fn made<R: ExtensionField<R>>(alloc: Global, call: Call) -> Result<Outcome, AllocError>
+    requires { R.Packing.WIDTH ≡ 4 }
 {
-    let poly = counted::<F>(alloc)?;
-    let split = split::<F, EF>(alloc)?;
+    let poly = counted::<R>(alloc)?;
+    let split = split::<R>(alloc)?;
     let answered = match call {
         Call::Prefix => prefix(alloc, &split, poly.as_view()),
         Call::PrefixToPacked => prefix_to_packed(alloc, &split, poly.as_view()),
@@ -53,44 +50,44 @@ fn counted<R: Additive>(alloc: Global) -> Result<Poly<R>, AllocError>
 }
 
 /// The table of the point (2, 2), with scalars in both halves, of which each has two.
-fn split<F: Field, EF: ExtensionField<F>>(alloc: Global) -> Result<SplitEq<F, EF>, AllocError>
-    ensures { IfOk result (λ split. length (split_entries EF.ring split) ≡ 4) }
+fn split<R: ExtensionField<R>>(alloc: Global) -> Result<SplitEq<R, R>, AllocError>
+    ensures { IfOk result (λ split. length (split_entries R.ring split) ≡ 4) }
 {
     let point = Point::new(elements(alloc, &[2, 2])?);
-    SplitEq::new_unpacked(alloc, &point, EF::ONE)
+    SplitEq::new_unpacked(alloc, &point, R::ONE)
 }
 
-fn prefix<F: Field, EF: ExtensionField<F>>(
+fn prefix<R: ExtensionField<R>>(
     alloc: Global,
-    split: &SplitEq<F, EF>,
-    poly: PolyView<'_, F>,
+    split: &SplitEq<R, R>,
+    poly: PolyView<'_, R>,
 ) -> Result<bool, AllocError>
-    requires table { length (split_entries EF.ring split.now) ≡ 4 }
+    requires table { length (split_entries R.ring split.now) ≡ 4 }
     requires poly { length (entries poly) ≡ 16 }
 {
     let left = split.compress_prefix_split(alloc, poly, 2)?;
     Ok(are(left.as_slice(), &[25, 26, 27, 28]))
 }
 
-fn prefix_to_packed<F: Field, EF: ExtensionField<F>>(
+fn prefix_to_packed<R: ExtensionField<R>>(
     alloc: Global,
-    split: &SplitEq<F, EF>,
-    poly: PolyView<'_, F>,
+    split: &SplitEq<R, R>,
+    poly: PolyView<'_, R>,
 ) -> Result<bool, AllocError>
-    requires lanes { F.Packing.WIDTH ≡ 4 }
-    requires table { length (split_entries EF.ring split.now) ≡ 4 }
+    requires lanes { R.Packing.WIDTH ≡ 4 }
+    requires table { length (split_entries R.ring split.now) ≡ 4 }
     requires poly { length (entries poly) ≡ 16 }
 {
     let left = split.compress_prefix_to_packed_split(alloc, poly, 2)?;
-    Ok(has_lanes::<F, EF>(left.as_slice(), &[25, 26, 27, 28]))
+    Ok(has_lanes::<R>(left.as_slice(), &[25, 26, 27, 28]))
 }
 
-fn prefix_shifted<F: Field, EF: ExtensionField<F>>(
+fn prefix_shifted<R: ExtensionField<R>>(
     alloc: Global,
-    split: &SplitEq<F, EF>,
-    poly: PolyView<'_, F>,
+    split: &SplitEq<R, R>,
+    poly: PolyView<'_, R>,
 ) -> Result<bool, AllocError>
-    requires table { length (split_entries EF.ring split.now) ≡ 4 }
+    requires table { length (split_entries R.ring split.now) ≡ 4 }
     requires poly { length (entries poly) ≡ 16 }
 {
     let left = split.compress_prefix_shifted_split(alloc, poly, 2)?;

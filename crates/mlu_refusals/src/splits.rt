@@ -37,103 +37,88 @@ pub enum PolyCall {
 }
 
 /// What becomes of the call. Fails where its inputs are refused.
-pub fn made<F: Field, EF: ExtensionField<F>>(
-    alloc: Global,
-    call: Call,
-) -> Result<Outcome, AllocError>
-    requires { F.Packing.WIDTH ≡ 4 }
+pub fn made<R: ExtensionField<R>>(alloc: Global, call: Call) -> Result<Outcome, AllocError>
+    requires { R.Packing.WIDTH ≡ 4 }
 {
-    let point = point::<EF>(alloc)?;
+    let point = point::<R>(alloc)?;
     match call {
-        Call::NewUnpacked => Ok(judge(new_unpacked::<F, EF>(alloc, &point), true)),
-        Call::NewPacked => Ok(judge(new_packed::<F, EF>(alloc, &point), true)),
-        Call::PackedTryClone => packed_copy::<F, EF>(alloc, &point, false),
-        Call::PackedCloneHalf => packed_copy::<F, EF>(alloc, &point, true),
-        Call::AccumulateIntoPacked => accumulate_into_packed::<F, EF>(alloc, &point),
-        Call::CompressPrefixToPacked => prefix_to_packed::<F, EF>(alloc),
-        Call::EvalPacked => eval_packed::<F, EF>(alloc, &point),
-        Call::Beside(call) => beside_a_poly::<F, EF>(alloc, call, &point),
+        Call::NewUnpacked => Ok(judge(new_unpacked::<R>(alloc, &point), true)),
+        Call::NewPacked => Ok(judge(new_packed::<R>(alloc, &point), true)),
+        Call::PackedTryClone => packed_copy::<R>(alloc, &point, false),
+        Call::PackedCloneHalf => packed_copy::<R>(alloc, &point, true),
+        Call::AccumulateIntoPacked => accumulate_into_packed::<R>(alloc, &point),
+        Call::CompressPrefixToPacked => prefix_to_packed::<R>(alloc),
+        Call::EvalPacked => eval_packed::<R>(alloc, &point),
+        Call::Beside(call) => beside_a_poly::<R>(alloc, call, &point),
     }
 }
 
-fn new_unpacked<F: Field, EF: ExtensionField<F>>(
-    alloc: Global,
-    point: &Point<EF>,
-) -> Result<bool, AllocError>
+fn new_unpacked<R: ExtensionField<R>>(alloc: Global, point: &Point<R>) -> Result<bool, AllocError>
     requires { length point.now ≡ 3 }
 {
-    Ok(SplitEq::<F, EF>::new_unpacked(alloc, point, EF::ONE)?.num_variables() == 3)
+    Ok(SplitEq::<R, R>::new_unpacked(alloc, point, R::ONE)?.num_variables() == 3)
 }
 
-fn new_packed<F: Field, EF: ExtensionField<F>>(
-    alloc: Global,
-    point: &Point<EF>,
-) -> Result<bool, AllocError>
+fn new_packed<R: ExtensionField<R>>(alloc: Global, point: &Point<R>) -> Result<bool, AllocError>
     requires { length point.now ≡ 3 }
 {
-    Ok(SplitEq::<F, EF>::new_packed(alloc, point, EF::ONE)?.num_variables() == 3)
+    Ok(SplitEq::<R, R>::new_packed(alloc, point, R::ONE)?.num_variables() == 3)
 }
 
 /// The table of a point of three coordinates, with scalars in both halves.
-pub fn split<F: Field, EF: ExtensionField<F>>(
+pub fn split<R: ExtensionField<R>>(
     alloc: Global,
-    point: &Point<EF>,
-) -> Result<SplitEq<F, EF>, AllocError>
+    point: &Point<R>,
+) -> Result<SplitEq<R, R>, AllocError>
     requires { length point.now ≡ 3 }
-    ensures { IfOk result (λ split. length (split_entries EF.ring split) ≡ 8) }
+    ensures { IfOk result (λ split. length (split_entries R.ring split) ≡ 8) }
 {
-    SplitEq::new_unpacked(alloc, point, EF::ONE)
+    SplitEq::new_unpacked(alloc, point, R::ONE)
 }
 
 /// The same table, with packed weights in its second half.
-fn packed_split<F: Field, EF: ExtensionField<F>>(
+fn packed_split<R: ExtensionField<R>>(
     alloc: Global,
-    point: &Point<EF>,
-) -> Result<SplitEq<F, EF>, AllocError>
+    point: &Point<R>,
+) -> Result<SplitEq<R, R>, AllocError>
     requires { length point.now ≡ 3 }
-    ensures { IfOk result (λ split. length (split_entries EF.ring split) ≡ 8) }
+    ensures { IfOk result (λ split. length (split_entries R.ring split) ≡ 8) }
 {
-    SplitEq::new_packed(alloc, point, EF::ONE)
+    SplitEq::new_packed(alloc, point, R::ONE)
 }
 
 /// Whether the table has the weights of the point (2, 3, 5), which are added to `zeros`.
-pub fn has_weights<F: Field, EF: ExtensionField<F>>(
-    split: &SplitEq<F, EF>,
-    zeros: &mut [EF],
-) -> bool
-    requires { length zeros.old ≡ length (split_entries EF.ring split.now) }
+pub fn has_weights<R: ExtensionField<R>>(split: &SplitEq<R, R>, zeros: &mut [R]) -> bool
+    requires { length zeros.old ≡ length (split_entries R.ring split.now) }
 {
     split.accumulate_into(zeros, None);
     are(zeros, &[-8, 10, 12, -15, 16, -20, -24, 30])
 }
 
 /// A refused accumulation leaves its output as it was.
-fn accumulate_into_packed<F: Field, EF: ExtensionField<F>>(
+fn accumulate_into_packed<R: ExtensionField<R>>(
     alloc: Global,
-    point: &Point<EF>,
+    point: &Point<R>,
 ) -> Result<Outcome, AllocError>
-    requires lanes { F.Packing.WIDTH ≡ 4 }
+    requires lanes { R.Packing.WIDTH ≡ 4 }
     requires point { length point.now ≡ 3 }
 {
-    let split = split::<F, EF>(alloc, point)?;
-    let mut out: Vec<EF::ExtensionPacking> = elements(alloc, &[1, 1])?;
+    let split = split::<R>(alloc, point)?;
+    let mut out: Vec<R::ExtensionPacking> = elements(alloc, &[1, 1])?;
     let done = split.accumulate_into_packed(alloc, out.as_mut_slice(), None);
     let out = out.as_slice();
     Ok(match done {
         Ok(()) => {
-            let right = has_lanes::<F, EF>(out, &[-7, 11, 13, -14, 17, -19, -23, 31]);
+            let right = has_lanes::<R>(out, &[-7, 11, 13, -14, 17, -19, -23, 31]);
             judge(Ok(true), right)
         }
-        Err(refused) => judge(Err(refused), has_lanes::<F, EF>(out, &[1; 8])),
+        Err(refused) => judge(Err(refused), has_lanes::<R>(out, &[1; 8])),
     })
 }
 
 /// Whether these are the lanes, joined in order.
-fn has_lanes<F: Field, EF: ExtensionField<F>>(
-    packed: &[EF::ExtensionPacking],
-    numbers: &[i32],
-) -> bool {
-    let mut lanes = EF::ExtensionPacking::to_ext_iter(packed);
+fn has_lanes<R: ExtensionField<R>>(packed: &[R::ExtensionPacking], numbers: &[i32]) -> bool {
+    let mut lanes = R::ExtensionPacking::to_ext_iter(packed);
     for number in numbers {
         if lanes.next() != Some(element(*number)) {
             return false;
@@ -142,41 +127,38 @@ fn has_lanes<F: Field, EF: ExtensionField<F>>(
     lanes.next().is_none()
 }
 
-fn value_of_lanes<F: Field, EF: ExtensionField<F>>(
+fn value_of_lanes<R: ExtensionField<R>>(
     alloc: Global,
-    split: &SplitEq<F, EF>,
-    packed: &Poly<EF::ExtensionPacking>,
+    split: &SplitEq<R, R>,
+    packed: &Poly<R::ExtensionPacking>,
 ) -> Result<bool, AllocError>
-    requires { length packed.now * F.Packing.WIDTH ≡ length (split_entries EF.ring split.now) }
+    requires { length packed.now * R.Packing.WIDTH ≡ length (split_entries R.ring split.now) }
 {
     Ok(split.eval_packed(alloc, packed.as_view())? == element(20))
 }
 
-fn eval_packed<F: Field, EF: ExtensionField<F>>(
-    alloc: Global,
-    point: &Point<EF>,
-) -> Result<Outcome, AllocError>
-    requires lanes { F.Packing.WIDTH ≡ 4 }
+fn eval_packed<R: ExtensionField<R>>(alloc: Global, point: &Point<R>) -> Result<Outcome, AllocError>
+    requires lanes { R.Packing.WIDTH ≡ 4 }
     requires point { length point.now ≡ 3 }
 {
-    let packed = packed::<F, EF>(alloc)?;
-    let mut zeros = EF::zero_vec(alloc, 8)?;
-    let split = split::<F, EF>(alloc, point)?;
-    let answered = value_of_lanes::<F, EF>(alloc, &split, &packed);
+    let packed = packed::<R>(alloc)?;
+    let mut zeros = R::zero_vec(alloc, 8)?;
+    let split = split::<R>(alloc, point)?;
+    let answered = value_of_lanes::<R>(alloc, &split, &packed);
     Ok(judge(answered, has_weights(&split, zeros.as_mut_slice())))
 }
 
 /// What becomes of the call, beside the polynomial with the values 1, 2, .., 8.
-fn beside_a_poly<F: Field, EF: ExtensionField<F>>(
+fn beside_a_poly<R: ExtensionField<R>>(
     alloc: Global,
     call: PolyCall,
-    point: &Point<EF>,
+    point: &Point<R>,
 ) -> Result<Outcome, AllocError>
     requires { length point.now ≡ 3 }
 {
-    let poly = poly::<F>(alloc)?;
-    let mut zeros = EF::zero_vec(alloc, 8)?;
-    let split = split::<F, EF>(alloc, point)?;
+    let poly = poly::<R>(alloc)?;
+    let mut zeros = R::zero_vec(alloc, 8)?;
+    let split = split::<R>(alloc, point)?;
     let answered = match call {
         PolyCall::TryClone => try_clone(alloc, &split),
         PolyCall::CloneHalf => clone_half(alloc, &split),
@@ -188,30 +170,30 @@ fn beside_a_poly<F: Field, EF: ExtensionField<F>>(
     Ok(judge(answered, kept))
 }
 
-fn try_clone<F: Field, EF: ExtensionField<F>>(
+fn try_clone<R: ExtensionField<R>>(
     alloc: Global,
-    split: &SplitEq<F, EF>,
+    split: &SplitEq<R, R>,
 ) -> Result<bool, AllocError> {
     Ok(split.try_clone(alloc)?.num_variables() == 3)
 }
 
-fn clone_half<F: Field, EF: ExtensionField<F>>(
+fn clone_half<R: ExtensionField<R>>(
     alloc: Global,
-    split: &SplitEq<F, EF>,
+    split: &SplitEq<R, R>,
 ) -> Result<bool, AllocError> {
     Ok(split.eq1().try_clone(alloc)?.last_scalar() == element(15))
 }
 
 /// A copy of a table with packed weights, or of its second half.
-fn packed_copy<F: Field, EF: ExtensionField<F>>(
+fn packed_copy<R: ExtensionField<R>>(
     alloc: Global,
-    point: &Point<EF>,
+    point: &Point<R>,
     is_half: bool,
 ) -> Result<Outcome, AllocError>
     requires { length point.now ≡ 3 }
 {
-    let mut zeros = EF::zero_vec(alloc, 8)?;
-    let split = packed_split::<F, EF>(alloc, point)?;
+    let mut zeros = R::zero_vec(alloc, 8)?;
+    let split = packed_split::<R>(alloc, point)?;
     let answered = if is_half {
         clone_half(alloc, &split)
     } else {
@@ -221,78 +203,78 @@ fn packed_copy<F: Field, EF: ExtensionField<F>>(
 }
 
 /// A conversion of scalars or of packed weights, with its table.
-pub fn converted<F: Field, EF: ExtensionField<F>, R: ExtensionField<R> + MapFrom<EF>>(
+pub fn converted<R: ExtensionField<R> + MapFrom<R>>(
     alloc: Global,
     is_packed: bool,
 ) -> Result<Outcome, AllocError> {
-    let point = point::<EF>(alloc)?;
-    let mut zeros = EF::zero_vec(alloc, 8)?;
+    let point = point::<R>(alloc)?;
+    let mut zeros = R::zero_vec(alloc, 8)?;
     let split = if is_packed {
-        packed_split::<F, EF>(alloc, &point)?
+        packed_split::<R>(alloc, &point)?
     } else {
-        split::<F, EF>(alloc, &point)?
+        split::<R>(alloc, &point)?
     };
-    let answered = to_field::<F, EF, R>(alloc, &split);
+    let answered = to_field::<R>(alloc, &split);
     Ok(judge(answered, has_weights(&split, zeros.as_mut_slice())))
 }
 
-fn to_field<F: Field, EF: ExtensionField<F>, R: ExtensionField<R> + MapFrom<EF>>(
+fn to_field<R: ExtensionField<R> + MapFrom<R>>(
     alloc: Global,
-    split: &SplitEq<F, EF>,
+    split: &SplitEq<R, R>,
 ) -> Result<bool, AllocError> {
     Ok(split.to_field::<R>(alloc)?.last_scalar() == element(30))
 }
 
-fn materialize<F: Field, EF: ExtensionField<F>>(
+fn materialize<R: ExtensionField<R>>(
     alloc: Global,
-    split: &SplitEq<F, EF>,
+    split: &SplitEq<R, R>,
 ) -> Result<bool, AllocError>
-    requires { length (split_entries EF.ring split.now) ≡ 8 }
+    requires { length (split_entries R.ring split.now) ≡ 8 }
 {
     let table = split.materialize(alloc)?;
     Ok(are(table.as_slice(), &[-8, 10, 12, -15, 16, -20, -24, 30]))
 }
 
-fn compress_prefix<F: Field, EF: ExtensionField<F>>(
+fn compress_prefix<R: ExtensionField<R>>(
     alloc: Global,
-    split: &SplitEq<F, EF>,
-    poly: PolyView<'_, F>,
+    split: &SplitEq<R, R>,
+    poly: PolyView<'_, R>,
 ) -> Result<bool, AllocError>
-    requires { length (split_entries EF.ring split.now) ≡ length (entries poly) }
+    requires { length (split_entries R.ring split.now) ≡ length (entries poly) }
 {
     Ok(are(split.compress_prefix(alloc, poly)?.as_slice(), &[20]))
 }
 
-fn prefix_to_packed<F: Field, EF: ExtensionField<F>>(alloc: Global) -> Result<Outcome, AllocError>
-    requires { F.Packing.WIDTH ≡ 4 }
+fn prefix_to_packed<R: ExtensionField<R>>(alloc: Global) -> Result<Outcome, AllocError>
+    requires { R.Packing.WIDTH ≡ 4 }
 {
-    let poly = poly::<F>(alloc)?;
-    let point = short_point::<EF>(alloc)?;
-    let split = SplitEq::<F, EF>::new_unpacked(alloc, &point, EF::ONE)?;
-    let answered = compress_prefix_to_packed::<F, EF>(alloc, &split, poly.as_view());
+    let poly = poly::<R>(alloc)?;
+    let point = short_point::<R>(alloc)?;
+    let split = SplitEq::<R, R>::new_unpacked(alloc, &point, R::ONE)?;
+    let answered = compress_prefix_to_packed::<R>(alloc, &split, poly.as_view());
     Ok(judge(answered, is_poly(poly.as_slice())))
 }
 
-fn compress_prefix_to_packed<F: Field, EF: ExtensionField<F>>(
+fn compress_prefix_to_packed<R: ExtensionField<R>>(
     alloc: Global,
-    split: &SplitEq<F, EF>,
-    poly: PolyView<'_, F>,
+    split: &SplitEq<R, R>,
+    poly: PolyView<'_, R>,
 ) -> Result<bool, AllocError>
-    requires lanes { F.Packing.WIDTH ≡ 4 }
-    requires split { length (split_entries EF.ring split.now) ≡ 2 }
+    requires lanes { R.Packing.WIDTH ≡ 4 }
+    requires split { length (split_entries R.ring split.now) ≡ 2 }
     requires poly { length (entries poly) ≡ 8 }
 {
     let left = split.compress_prefix_to_packed(alloc, poly)?;
-    let last = EF::ExtensionPacking::to_ext_iter(left.as_slice()).last();
+    let last = R::ExtensionPacking::to_ext_iter(left.as_slice()).last();
     Ok(last == Some(element(12)))
 }
 
-fn compress_suffix<F: Field, EF: ExtensionField<F>>(
+fn compress_suffix<R: ExtensionField<R>>(
     alloc: Global,
-    split: &SplitEq<F, EF>,
-    poly: PolyView<'_, F>,
+    split: &SplitEq<R, R>,
+    poly: PolyView<'_, R>,
 ) -> Result<bool, AllocError>
-    requires { length (split_entries EF.ring split.now) ≡ length (entries poly) }
+    requires { length (split_entries R.ring split.now) ≡ length (entries poly) }
 {
     Ok(are(split.compress_suffix(alloc, poly)?.as_slice(), &[20]))
 }

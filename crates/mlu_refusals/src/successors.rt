@@ -25,36 +25,33 @@ pub enum Call {
 }
 
 /// What becomes of the call. Fails where its inputs are refused.
-pub fn made<F: Field, EF: ExtensionField<F>>(
-    alloc: Global,
-    call: Call,
-) -> Result<Outcome, AllocError> {
-    let poly = poly::<F>(alloc)?;
+pub fn made<R: ExtensionField<R>>(alloc: Global, call: Call) -> Result<Outcome, AllocError> {
+    let poly = poly::<R>(alloc)?;
     let answered = match call {
         Call::NewNextFromPoint => next_from_point(alloc, poly.as_slice()),
         Call::NewNextFromPointBy => next_from_point_by(alloc, poly.as_slice()),
         Call::EvalNextBase(receiver) => {
-            eval_next_base::<F, EF>(alloc, receiver, &poly, &point(alloc)?)
+            eval_next_base::<R>(alloc, receiver, &poly, &point(alloc)?)
         }
         Call::EvalNextBaseBy(receiver) => {
-            eval_next_base_by::<F, EF>(alloc, receiver, &poly, &point(alloc)?)
+            eval_next_base_by::<R>(alloc, receiver, &poly, &point(alloc)?)
         }
         Call::CompressPrefixShifted => {
-            compress_prefix_shifted::<F, EF>(alloc, &split(alloc)?, poly.as_view())
+            compress_prefix_shifted::<R>(alloc, &split(alloc)?, poly.as_view())
         }
         Call::CompressSuffixShifted => {
-            compress_suffix_shifted::<F, EF>(alloc, &split(alloc)?, poly.as_view())
+            compress_suffix_shifted::<R>(alloc, &split(alloc)?, poly.as_view())
         }
     };
     Ok(judge(answered, is_poly(poly.as_slice())))
 }
 
 /// The table of the point (2), with scalars in both halves.
-fn split<F: Field, EF: ExtensionField<F>>(alloc: Global) -> Result<SplitEq<F, EF>, AllocError>
-    ensures { IfOk result (λ split. length (split_entries EF.ring split) ≡ 2) }
+fn split<R: ExtensionField<R>>(alloc: Global) -> Result<SplitEq<R, R>, AllocError>
+    ensures { IfOk result (λ split. length (split_entries R.ring split) ≡ 2) }
 {
     let point = short_point(alloc)?;
-    SplitEq::new_unpacked(alloc, &point, EF::ONE)
+    SplitEq::new_unpacked(alloc, &point, R::ONE)
 }
 
 /// At the point (2, 3).
@@ -79,11 +76,11 @@ fn next_from_point_by<R: PrimeCharacteristicRing>(
     Ok(are(rows.as_slice(), &[6, 2, -3, -4]))
 }
 
-fn eval_next_base<F: Field, EF: ExtensionField<F>>(
+fn eval_next_base<R: ExtensionField<R>>(
     alloc: Global,
     receiver: Receiver,
-    poly: &Poly<F>,
-    point: &Point<EF>,
+    poly: &Poly<R>,
+    point: &Point<R>,
 ) -> Result<bool, AllocError>
     requires poly { length poly.now ≡ 8 }
     requires point { length point.now ≡ 3 }
@@ -96,11 +93,11 @@ fn eval_next_base<F: Field, EF: ExtensionField<F>>(
 }
 
 /// Where the rows go round.
-fn eval_next_base_by<F: Field, EF: ExtensionField<F>>(
+fn eval_next_base_by<R: ExtensionField<R>>(
     alloc: Global,
     receiver: Receiver,
-    poly: &Poly<F>,
-    point: &Point<EF>,
+    poly: &Poly<R>,
+    point: &Point<R>,
 ) -> Result<bool, AllocError>
     requires poly { length poly.now ≡ 8 }
     requires point { length point.now ≡ 3 }
@@ -114,24 +111,24 @@ fn eval_next_base_by<F: Field, EF: ExtensionField<F>>(
     Ok(value == element(-219))
 }
 
-fn compress_prefix_shifted<F: Field, EF: ExtensionField<F>>(
+fn compress_prefix_shifted<R: ExtensionField<R>>(
     alloc: Global,
-    split: &SplitEq<F, EF>,
-    poly: PolyView<'_, F>,
+    split: &SplitEq<R, R>,
+    poly: PolyView<'_, R>,
 ) -> Result<bool, AllocError>
-    requires split { length (split_entries EF.ring split.now) ≡ 2 }
+    requires split { length (split_entries R.ring split.now) ≡ 2 }
     requires poly { length (entries poly) ≡ 8 }
 {
     let left = split.compress_prefix_shifted(alloc, poly)?;
     Ok(are(left.as_slice(), &[-5, -6, -7, -8]))
 }
 
-fn compress_suffix_shifted<F: Field, EF: ExtensionField<F>>(
+fn compress_suffix_shifted<R: ExtensionField<R>>(
     alloc: Global,
-    split: &SplitEq<F, EF>,
-    poly: PolyView<'_, F>,
+    split: &SplitEq<R, R>,
+    poly: PolyView<'_, R>,
 ) -> Result<bool, AllocError>
-    requires split { length (split_entries EF.ring split.now) ≡ 2 }
+    requires split { length (split_entries R.ring split.now) ≡ 2 }
     requires poly { length (entries poly) ≡ 8 }
 {
     let left = split.compress_suffix_shifted(alloc, poly)?;

@@ -16,13 +16,11 @@ use std::alloc::{AllocError, Global};
 use std::test::Fail;
 
 /// What becomes of the proof. Fails where its inputs are refused.
-pub fn made<F: Field, EF: ExtensionField<F> + SelfAlgebra>(
-    alloc: Global,
-) -> Result<Outcome, AllocError> {
-    let poly = poly::<EF>(alloc)?;
-    let point = point::<EF>(alloc)?;
-    let mut zeros = EF::zero_vec(alloc, 8)?;
-    let weights = split::<F, EF>(alloc, &point)?;
+pub fn made<R: ExtensionField<R> + SelfAlgebra>(alloc: Global) -> Result<Outcome, AllocError> {
+    let poly = poly::<R>(alloc)?;
+    let point = point::<R>(alloc)?;
+    let mut zeros = R::zero_vec(alloc, 8)?;
+    let weights = split::<R>(alloc, &point)?;
     let answered = proved(alloc, &poly, &weights, point.as_slice());
     let kept = has_weights(&weights, zeros.as_mut_slice())
         && is_poly(poly.as_slice())
@@ -31,14 +29,14 @@ pub fn made<F: Field, EF: ExtensionField<F> + SelfAlgebra>(
 }
 
 /// Whether the claims begin with the value 20 and end with 20 times the weight (4 + 1) (9 + 4) (25 + 16).
-fn proved<F: Field, EF: ExtensionField<F> + SelfAlgebra>(
+fn proved<R: ExtensionField<R> + SelfAlgebra>(
     alloc: Global,
-    poly: &Poly<EF>,
-    weights: &SplitEq<F, EF>,
-    challenges: &[EF],
+    poly: &Poly<R>,
+    weights: &SplitEq<R, R>,
+    challenges: &[R],
 ) -> Result<bool, AllocError>
     requires poly { length poly.now ≡ 8 }
-    requires weights { length (split_entries EF.ring weights.now) ≡ 8 }
+    requires weights { length (split_entries R.ring weights.now) ≡ 8 }
     requires challenges { length challenges.now ≡ 3 }
 {
     let transcript = run(alloc, poly, weights, challenges)?;

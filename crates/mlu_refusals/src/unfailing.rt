@@ -26,45 +26,42 @@ pub enum Call {
 }
 
 /// What becomes of the call. Fails where its inputs are refused.
-pub fn made<F: Field + Sample, EF: ExtensionField<F>>(
-    alloc: Global,
-    call: Call,
-) -> Result<Outcome, AllocError>
-    requires { F.Packing.WIDTH ≡ 4 }
+pub fn made<R: ExtensionField<R> + Sample>(alloc: Global, call: Call) -> Result<Outcome, AllocError>
+    requires { R.Packing.WIDTH ≡ 4 }
 {
     match call {
-        Call::EmptyPoint => Ok(empty_point::<F>(alloc)),
-        Call::WholeChunk => whole_chunk::<F>(alloc),
-        Call::SizeThatIsThere => size_that_is_there::<F>(alloc),
-        Call::Scalars => scalars::<F, EF>(alloc),
-        Call::SplitInLanes => split_in_lanes::<F, EF>(alloc),
+        Call::EmptyPoint => Ok(empty_point::<R>(alloc)),
+        Call::WholeChunk => whole_chunk::<R>(alloc),
+        Call::SizeThatIsThere => size_that_is_there::<R>(alloc),
+        Call::Scalars => scalars::<R>(alloc),
+        Call::SplitInLanes => split_in_lanes::<R>(alloc),
     }
 }
 
 /// All calls that make or copy a point of no coordinates.
-fn empty_point<F: Field + Sample>(alloc: Global) -> Outcome {
-    let mut point: Point<F> = Point::empty(alloc);
+fn empty_point<R: Field + Sample>(alloc: Global) -> Outcome {
+    let mut point: Point<R> = Point::empty(alloc);
     let mut rng = Pcg32::new(1, 54);
     let copied = point.try_clone(alloc).is_ok()
         && point.reversed(alloc).is_ok()
         && point.split_at(alloc, 0).is_ok()
         && point.get_subpoint_over_range(alloc, 0..0).is_ok();
-    let made = Point::<F>::hypercube(alloc, 0, 0).is_ok()
-        && Point::<F>::rand(alloc, &mut rng, 0).is_ok()
+    let made = Point::<R>::hypercube(alloc, 0, 0).is_ok()
+        && Point::<R>::rand(alloc, &mut rng, 0).is_ok()
         && Point::transpose(alloc, slice::from_ref(&point), false).is_ok();
     let extended = point.extend(PointView::default()).is_ok();
     judge(Ok(copied && made && extended), point.num_variables() == 0)
 }
 
 /// A table in one chunk.
-fn whole_chunk<F: Field>(alloc: Global) -> Result<Outcome, AllocError> {
-    let point = point::<F>(alloc)?;
-    let mut out: Vec<F> = elements(alloc, &[9; 8])?;
+fn whole_chunk<R: Field>(alloc: Global) -> Result<Outcome, AllocError> {
+    let point = point::<R>(alloc)?;
+    let mut out: Vec<R> = elements(alloc, &[9; 8])?;
     let done = point.fill_equality_table_in_chunks(
         alloc,
         out.as_mut_slice(),
         BitOrder::Msb,
-        F::ONE,
+        R::ONE,
         3,
         &mut Unmetered::new(),
     );
@@ -73,16 +70,16 @@ fn whole_chunk<F: Field>(alloc: Global) -> Result<Outcome, AllocError> {
 }
 
 /// Zeros appended up to the size that is there.
-fn size_that_is_there<F: PrimeCharacteristicRing>(alloc: Global) -> Result<Outcome, AllocError> {
-    let mut poly = poly::<F>(alloc)?;
+fn size_that_is_there<R: PrimeCharacteristicRing>(alloc: Global) -> Result<Outcome, AllocError> {
+    let mut poly = poly::<R>(alloc)?;
     let done = poly.pad_zeros(3);
     Ok(judge(Ok(done.is_ok()), is_poly(poly.as_slice())))
 }
 
 /// A scalar storage, evaluated below the threshold and unpacked.
-fn scalars<F: Field, EF: ExtensionField<F>>(alloc: Global) -> Result<Outcome, AllocError> {
-    let point = point::<EF>(alloc)?;
-    let storage: PolyMaybePacked<F, EF> = PolyMaybePacked::Scalar(poly::<EF>(alloc)?);
+fn scalars<R: ExtensionField<R>>(alloc: Global) -> Result<Outcome, AllocError> {
+    let point = point::<R>(alloc)?;
+    let storage: PolyMaybePacked<R, R> = PolyMaybePacked::Scalar(poly::<R>(alloc)?);
     let valued = storage.eval(alloc, &point) == Ok(element(20));
     let unpacked = match storage.unpack(alloc) {
         Ok(poly) => is_poly(poly.as_slice()),
@@ -92,14 +89,14 @@ fn scalars<F: Field, EF: ExtensionField<F>>(alloc: Global) -> Result<Outcome, Al
 }
 
 /// A table with lanes in its second half, added to packed zeros and paired with itself.
-fn split_in_lanes<F: Field, EF: ExtensionField<F>>(alloc: Global) -> Result<Outcome, AllocError>
-    requires { F.Packing.WIDTH ≡ 4 }
+fn split_in_lanes<R: ExtensionField<R>>(alloc: Global) -> Result<Outcome, AllocError>
+    requires { R.Packing.WIDTH ≡ 4 }
 {
-    let point: Point<EF> = Point::new(elements(alloc, &[2; 4])?);
-    let split = SplitEq::<F, EF>::new_packed(alloc, &point, EF::ONE)?;
-    let mut out: Vec<EF::ExtensionPacking> = elements(alloc, &[0; 4])?;
+    let point: Point<R> = Point::new(elements(alloc, &[2; 4])?);
+    let split = SplitEq::<R, R>::new_packed(alloc, &point, R::ONE)?;
+    let mut out: Vec<R::ExtensionPacking> = elements(alloc, &[0; 4])?;
     let done = split.accumulate_into_packed(alloc, out.as_mut_slice(), None);
-    let last = EF::ExtensionPacking::to_ext_iter(out.as_slice()).last();
+    let last = R::ExtensionPacking::to_ext_iter(out.as_slice()).last();
     let added = done.is_ok() && last == Some(element(16));
     let sums = out.as_slice();
     if !sums.len().is_power_of_two() {
