@@ -38,87 +38,101 @@ fn after_base<F: Field, EF: ExtensionField<F>>(
     after(alloc, before, &images, scalars, is_added)
 }
 
-/// Points of the same number of variables, one a column of `rows`, and into how many chunks their
-/// tables are cut, as its logarithm.
+/// Points of the same number of variables, one a column of `rows`, with a scalar each.
 #[derive(Clone, Copy)]
-struct Batch<'a, R> {
+struct Batch<'a, R, E> {
     rows: &'a [R],
     variables: usize,
-    log_chunks: usize,
+    scalars: &'a [E],
 }
 
-/// Compares a batch of points of the extension, whole and in chunks.
+/// Compares a batch of points of the extension, whole and in each number of chunks.
 fn compare<F: Field, EF: ExtensionField<F>, const INITIALIZED: bool>(
     alloc: Global,
     report: &mut Report,
-    batch: Batch<'_, EF>,
-    scalars: &[EF],
+    batch: Batch<'_, EF, EF>,
     before: &[EF],
 ) -> Result<(), AllocError>
-    requires rows { length batch.rows.now ≡ batch.variables * length scalars.now }
+    requires rows { length batch.rows.now ≡ batch.variables * length batch.scalars.now }
     requires places { length before.now ≡ 2 ^ batch.variables }
-    requires chunks { batch.log_chunks ≤ batch.variables }
 {
-    let (rows, points) = (batch.rows, scalars.len());
-    let sums = after(alloc, before, rows, scalars, INITIALIZED)?;
-    let evals = RowMajorMatrixView::new(rows, points);
+    let sums = after(alloc, before, batch.rows, batch.scalars, INITIALIZED)?;
+    let evals = RowMajorMatrixView::new(batch.rows, batch.scalars.len());
     let mut out = Vec::from_slice(alloc, before)?;
-    eval_eq_batch::<F, EF, INITIALIZED>(alloc, evals, out.as_mut_slice(), scalars)?;
+    eval_eq_batch::<F, EF, INITIALIZED>(alloc, evals, out.as_mut_slice(), batch.scalars)?;
     report.values("eval_eq_batch", &out, &sums);
-    let evals = RowMajorMatrixView::new(rows, points);
-    let mut out = Vec::from_slice(alloc, before)?;
-    eval_eq_batch_in_chunks::<F, EF, INITIALIZED>(
-        alloc,
-        evals,
-        out.as_mut_slice(),
-        scalars,
-        batch.log_chunks,
-    )?;
-    report.values("eval_eq_batch_in_chunks", &out, &sums);
+    for log_chunks in 0..=batch.variables {
+        out.copy_from_slice(before);
+        in_chunks::<F, EF, INITIALIZED>(alloc, batch, out.as_mut_slice(), log_chunks)?;
+        report.values("eval_eq_batch_in_chunks", &out, &sums);
+    }
     Ok(())
+}
+
+/// The batch in 2^`log_chunks` chunks.
+fn in_chunks<F: Field, EF: ExtensionField<F>, const INITIALIZED: bool>(
+    alloc: Global,
+    batch: Batch<'_, EF, EF>,
+    out: &mut [EF],
+    log_chunks: usize,
+) -> Result<(), AllocError>
+    requires rows { length batch.rows.now ≡ batch.variables * length batch.scalars.now }
+    requires places { length out.old ≡ 2 ^ batch.variables }
+    requires chunks { log_chunks ≤ batch.variables }
+    ensures { length out.new ≡ length out.old }
+{
+    let evals = RowMajorMatrixView::new(batch.rows, batch.scalars.len());
+    eval_eq_batch_in_chunks::<F, EF, INITIALIZED>(alloc, evals, out, batch.scalars, log_chunks)
 }
 
 /// As [`compare`], for points of the base.
 fn compare_base<F: Field, EF: ExtensionField<F>, const INITIALIZED: bool>(
     alloc: Global,
     report: &mut Report,
-    batch: Batch<'_, F>,
-    scalars: &[EF],
+    batch: Batch<'_, F, EF>,
     before: &[EF],
 ) -> Result<(), AllocError>
-    requires rows { length batch.rows.now ≡ batch.variables * length scalars.now }
+    requires rows { length batch.rows.now ≡ batch.variables * length batch.scalars.now }
     requires places { length before.now ≡ 2 ^ batch.variables }
-    requires chunks { batch.log_chunks ≤ batch.variables }
 {
-    let (rows, points) = (batch.rows, scalars.len());
-    let sums = after_base::<F, EF>(alloc, before, rows, scalars, INITIALIZED)?;
-    let evals = RowMajorMatrixView::new(rows, points);
+    let sums = after_base::<F, EF>(alloc, before, batch.rows, batch.scalars, INITIALIZED)?;
+    let evals = RowMajorMatrixView::new(batch.rows, batch.scalars.len());
     let mut out = Vec::from_slice(alloc, before)?;
-    eval_eq_base_batch::<F, EF, INITIALIZED>(alloc, evals, out.as_mut_slice(), scalars)?;
+    eval_eq_base_batch::<F, EF, INITIALIZED>(alloc, evals, out.as_mut_slice(), batch.scalars)?;
     report.values("eval_eq_base_batch", &out, &sums);
-    let evals = RowMajorMatrixView::new(rows, points);
-    let mut out = Vec::from_slice(alloc, before)?;
-    eval_eq_base_batch_in_chunks::<F, EF, INITIALIZED>(
-        alloc,
-        evals,
-        out.as_mut_slice(),
-        scalars,
-        batch.log_chunks,
-    )?;
-    report.values("eval_eq_base_batch_in_chunks", &out, &sums);
+    for log_chunks in 0..=batch.variables {
+        out.copy_from_slice(before);
+        base_in_chunks::<F, EF, INITIALIZED>(alloc, batch, out.as_mut_slice(), log_chunks)?;
+        report.values("eval_eq_base_batch_in_chunks", &out, &sums);
+    }
     Ok(())
 }
 
-/// Compares batches of so many drawn points of either field, written and added, in 2^`log_chunks`
-/// chunks.
+/// As [`in_chunks`], for points of the base.
+fn base_in_chunks<F: Field, EF: ExtensionField<F>, const INITIALIZED: bool>(
+    alloc: Global,
+    batch: Batch<'_, F, EF>,
+    out: &mut [EF],
+    log_chunks: usize,
+) -> Result<(), AllocError>
+    requires rows { length batch.rows.now ≡ batch.variables * length batch.scalars.now }
+    requires places { length out.old ≡ 2 ^ batch.variables }
+    requires chunks { log_chunks ≤ batch.variables }
+    ensures { length out.new ≡ length out.old }
+{
+    let evals = RowMajorMatrixView::new(batch.rows, batch.scalars.len());
+    eval_eq_base_batch_in_chunks::<F, EF, INITIALIZED>(alloc, evals, out, batch.scalars, log_chunks)
+}
+
+/// Compares batches of so many drawn points of either field, written and added.
 pub fn sum_tables<F: Field + Sample, EF: ExtensionField<F> + Sample>(
     alloc: Global,
     report: &mut Report,
     rng: &mut Pcg32,
     points: usize,
-    (variables, log_chunks): (usize, usize),
+    variables: usize,
 ) -> Result<(), AllocError> {
-    if variables >= 32 || log_chunks > variables {
+    if variables >= 32 {
         return Err(AllocError);
     }
     let size = variables.checked_mul(points).ok_or(AllocError)?;
@@ -128,16 +142,16 @@ pub fn sum_tables<F: Field + Sample, EF: ExtensionField<F> + Sample>(
     let batch = Batch {
         rows: &rows,
         variables,
-        log_chunks,
+        scalars: &scalars,
     };
-    compare::<F, EF, false>(alloc, report, batch, &scalars, &before)?;
-    compare::<F, EF, true>(alloc, report, batch, &scalars, &before)?;
+    compare::<F, EF, false>(alloc, report, batch, &before)?;
+    compare::<F, EF, true>(alloc, report, batch, &before)?;
     let rows: Vec<F> = elements(alloc, rng, size)?;
     let batch = Batch {
         rows: &rows,
         variables,
-        log_chunks,
+        scalars: &scalars,
     };
-    compare_base::<F, EF, false>(alloc, report, batch, &scalars, &before)?;
-    compare_base::<F, EF, true>(alloc, report, batch, &scalars, &before)
+    compare_base::<F, EF, false>(alloc, report, batch, &before)?;
+    compare_base::<F, EF, true>(alloc, report, batch, &before)
 }

@@ -1,7 +1,7 @@
 //! The calls of `mlu_eq` on split tables by themselves: first halves of any length, none too.
 ghost use Rattle.std.specs.Prelude.{◌≡◌, ◌*◌, ◌<◌, length};
 
-use crate::definitions::{plus_rows, plus_scaled};
+use crate::definitions::{plus_rows, plus_scaled, two_and_steps};
 use crate::draws::{element, elements};
 use crate::report::{Report, Shape};
 use mlu_eq::split::{
@@ -24,7 +24,7 @@ const MOST_VARIABLES: usize = 5;
 const ROWS: [usize; 4] = [0, 1, 2, 3];
 
 /// How many places, or packed ones, a compression leaves.
-const PLACES: [usize; 3] = [0, 1, 3];
+const PLACES: [usize; 4] = [0, 1, 2, 3];
 
 /// Compares the calls on both forms of drawn second halves.
 pub fn compare<F: Field + Sample, EF: ExtensionField<F> + Sample>(
@@ -54,6 +54,7 @@ fn scalars<F: Field + Sample, EF: ExtensionField<F> + Sample>(
         return Err(AllocError);
     }
     let eq1 = half::from_scalars::<F, EF>(Vec::from_slice(alloc, weights)?);
+    report.agrees("EqMaybePacked::is_packed", !eq1.is_packed());
     with_rows(alloc, report, rng, &eq1, weights)
 }
 
@@ -69,6 +70,7 @@ fn in_lanes<F: Field + Sample, EF: ExtensionField<F> + Sample>(
         return Ok(());
     }
     let eq1 = half::from_packed::<F, EF>(packed::<F, EF>(alloc, weights, n)?);
+    report.agrees("EqMaybePacked::is_packed", eq1.is_packed());
     with_rows(alloc, report, rng, &eq1, weights)
 }
 
@@ -84,6 +86,7 @@ fn with_rows<F: Field + Sample, EF: ExtensionField<F> + Sample>(
     if variables >= 32 || weights.len() != 1 << variables {
         return Err(AllocError);
     }
+    steps(alloc, report, rng, &eq1.try_clone(alloc)?, weights)?;
     for rows in ROWS {
         let eq0: Vec<EF> = elements(alloc, rng, rows)?;
         if eq0.len() >= 256 || weights.len() >= 256 {
@@ -99,6 +102,31 @@ fn with_rows<F: Field + Sample, EF: ExtensionField<F> + Sample>(
         accumulations(alloc, report, rng, &eq0, eq1, &whole)?;
         compressions(alloc, report, rng, &eq0, eq1, &whole)?;
     }
+    Ok(())
+}
+
+/// Compares what a second half says of its weights, and its step to the next row.
+fn steps<F: Field, EF: ExtensionField<F> + Sample>(
+    alloc: Global,
+    report: &mut Report,
+    rng: &mut Pcg32,
+    eq1: &EqMaybePacked<F, EF>,
+    weights: &[EF],
+) -> Result<(), AllocError>
+    requires { length weights.now ≡ length eq1.now.weights }
+{
+    report.shape = Shape::Slice {
+        entries: weights.len(),
+    };
+    let count = eq1.num_scalar_evals();
+    report.agrees("EqMaybePacked::num_scalar_evals", count == weights.len());
+    let last = plain::last(weights);
+    report.value("EqMaybePacked::last_scalar", eq1.last_scalar(), last);
+    let factors = (element(rng), element(rng), element(rng));
+    let mut out = filled(alloc, EF::TWO, weights.len())?;
+    eq1.accumulate_next_chunk_into(&mut out, factors.0, factors.1, factors.2);
+    let sums = two_and_steps(alloc, weights, factors)?;
+    report.values("EqMaybePacked::accumulate_next_chunk_into", &out, &sums);
     Ok(())
 }
 

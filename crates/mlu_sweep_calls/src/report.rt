@@ -116,6 +116,13 @@ impl Report {
         }
     }
 
+    /// Notes the call where it does not agree, unless a difference was met before.
+    pub fn agrees(&mut self, call: &'static str, agrees: bool) {
+        if !agrees {
+            self.note(call, 0);
+        }
+    }
+
     /// Notes a difference, unless one was met before.
     fn note(&mut self, call: &'static str, place: usize) {
         if self.difference.is_none() {

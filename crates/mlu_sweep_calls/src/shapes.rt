@@ -9,8 +9,8 @@ use multilinear_util::poly::Poly;
 use rand_pcg::Pcg32;
 use std::alloc::{AllocError, Global};
 
-/// Batches have one point, and a few.
-const POINTS: [usize; 2] = [1, 3];
+/// The most points of a batch.
+const MOST_POINTS: usize = 5;
 
 /// Compares the kernels, the folds of slices and the sums with split tables by themselves, then each call
 /// on polynomials of each number of variables up to `most`, at points of as many coordinates and of
@@ -90,7 +90,7 @@ fn at_a_point<F: Field, EF: ExtensionField<F> + Sample>(
     if base.num_variables() == coordinates {
         polys::evaluate(alloc, report, &point, (base, ext))?;
         polys::evaluate_lanes::<F, EF>(alloc, report, &point, ext)?;
-        polys::evaluate_storages::<F, EF>(alloc, report, &point, ext)?;
+        polys::store::<F, EF>(alloc, report, &point, ext)?;
     }
     Ok(())
 }
@@ -113,10 +113,8 @@ fn tables<F: Field + Sample, EF: ExtensionField<F> + Sample>(
     points::steps::<EF>(alloc, report, rng, variables)?;
     polys::tabulate::<F, EF>(alloc, report, &point, scale)?;
     polys::tabulate_lanes::<F, EF>(alloc, report, &point, scale)?;
-    for points in POINTS {
-        for log_chunks in [0, variables / 2, variables] {
-            batches::sum_tables::<F, EF>(alloc, report, rng, points, (variables, log_chunks))?;
-        }
+    for points in 0..=MOST_POINTS {
+        batches::sum_tables::<F, EF>(alloc, report, rng, points, variables)?;
     }
     Ok(())
 }

@@ -4,5 +4,4 @@ mod examples;
 mod polys;
 mod rings;
 mod splits;
-mod storages;
 mod texts;

@@ -1,16 +1,21 @@
 //! The images of second halves in other rings.
 ghost use Rattle.std.specs.Prelude.{◌≡◌, length};
 
-use super::halves::{packed_half, scalar_half};
-use mlu_eq::half::images;
-use mlu_eq::{EqMaybePacked, half, split};
+use mlu_eq::half::{from_packed, from_scalars, images, to_field};
+use mlu_eq::{EqMaybePacked, split};
 use mlu_ext::QuarticExtension;
 use mlu_lanes::{BabyBear, WrappingU64};
-use mlu_ring::{Additive, ExtensionField, Field, MapFrom, PrimeCharacteristicRing, Sample};
+use mlu_ring::{
+    Additive, ExtensionField, Field, MapFrom, PackedValue, PrimeCharacteristicRing, Sample,
+};
 use mlu_test_support::draws::drawn;
+use mlu_test_support::lanes::packed;
 use mlu_test_support::numbers::elements;
 use rand_pcg::Pcg32;
 use std::alloc::{AllocError, Global};
+
+/// How many weights.
+const WEIGHTS: usize = 8;
 
 /// The images of the weights, one by one.
 fn mapped<E: Additive, R: MapFrom<E>>(alloc: Global, weights: &[E]) -> Result<Vec<R>, AllocError> {
@@ -29,21 +34,32 @@ fn has_images<F: Field, EF: ExtensionField<F>, R: ExtensionField<R> + MapFrom<EF
 ) -> Result<bool, AllocError>
     requires { length eq1.now.weights ≡ length weights.now }
 {
-    let table = half::to_field::<F, EF, R>(eq1, alloc)?;
+    let table = to_field::<F, EF, R>(eq1, alloc)?;
     let one = elements::<R>(alloc, &[1])?;
     let mut out = R::zero_vec(alloc, weights.len())?;
     split::accumulate_into(&one, &table, &mut out, R::ONE);
     Ok(!table.is_packed() && out == mapped::<EF, R>(alloc, weights)?)
 }
 
-/// Whether tables of eight drawn weights, scalar and packed, have their images in the other ring.
+/// The table of these weights in two packings, or none.
+fn in_two_packings<F: Field, EF: ExtensionField<F>>(
+    alloc: Global,
+    weights: &[EF],
+) -> Result<Option<EqMaybePacked<F, EF>>, AllocError> {
+    if weights.len() != WEIGHTS || F::Packing::WIDTH != WEIGHTS / 2 {
+        return Ok(None);
+    }
+    Ok(Some(from_packed(packed::<F, EF>(alloc, weights, 2)?)))
+}
+
+/// Whether tables of drawn weights, scalar and packed, have their images in the other ring.
 fn images_agree<F: Field, EF: ExtensionField<F> + Sample, R: ExtensionField<R> + MapFrom<EF>>(
     alloc: Global,
 ) -> Result<bool, AllocError> {
     let mut rng = Pcg32::new(1, 54);
-    let weights = drawn::<EF>(alloc, &mut rng, 8)?;
-    let scalar = scalar_half::<F, EF>(alloc, &weights)?;
-    let Some(packed) = packed_half::<F, EF>(alloc, &weights)? else {
+    let weights = drawn::<EF>(alloc, &mut rng, WEIGHTS)?;
+    let scalar = from_scalars::<F, EF>(Vec::from_slice(alloc, &weights)?);
+    let Some(packed) = in_two_packings::<F, EF>(alloc, &weights)? else {
         return Ok(false);
     };
     Ok(
