@@ -1,5 +1,5 @@
 //! The images of second halves in other rings.
-ghost use Rattle.std.specs.Prelude.{◌≡◌, length};
+ghost use Rattle.std.specs.Prelude.{◌≡◌, IfOk, IfSome, length};
 
 use mlu_eq::half::{from_packed, from_scalars, images, to_field};
 use mlu_eq::{EqMaybePacked, split};
@@ -13,9 +13,6 @@ use mlu_test_support::lanes::packed;
 use mlu_test_support::numbers::elements;
 use rand_pcg::Pcg32;
 use std::alloc::{AllocError, Global};
-
-/// How many weights.
-const WEIGHTS: usize = 8;
 
 /// The images of the weights, one by one.
 fn mapped<E: Additive, R: MapFrom<E>>(alloc: Global, weights: &[E]) -> Result<Vec<R>, AllocError> {
@@ -41,25 +38,32 @@ fn has_images<F: Field, EF: ExtensionField<F>, R: ExtensionField<R> + MapFrom<EF
     Ok(!table.is_packed() && out == mapped::<EF, R>(alloc, weights)?)
 }
 
-/// The table of these weights in two packings, or none.
-fn in_two_packings<F: Field, EF: ExtensionField<F>>(
+/// The table of these weights in lanes, where they fill packings.
+fn packed_half<F: Field, EF: ExtensionField<F>>(
     alloc: Global,
     weights: &[EF],
-) -> Result<Option<EqMaybePacked<F, EF>>, AllocError> {
-    if weights.len() != WEIGHTS || F::Packing::WIDTH != WEIGHTS / 2 {
+) -> Result<Option<EqMaybePacked<F, EF>>, AllocError>
+    ensures { IfOk result (λ half. IfSome half (λ table. length table.weights ≡ length weights.now)) }
+{
+    let groups = weights.len() / F::Packing::WIDTH;
+    if groups * F::Packing::WIDTH != weights.len() || !groups.is_power_of_two() {
         return Ok(None);
     }
-    Ok(Some(from_packed(packed::<F, EF>(alloc, weights, 2)?)))
+    let packed = packed::<F, EF>(alloc, weights, groups)?;
+    Ok(Some(from_packed(packed)))
 }
 
-/// Whether tables of drawn weights, scalar and packed, have their images in the other ring.
+/// Whether tables of eight drawn weights, scalar and packed, have their images in the other ring.
 fn images_agree<F: Field, EF: ExtensionField<F> + Sample, R: ExtensionField<R> + MapFrom<EF>>(
     alloc: Global,
 ) -> Result<bool, AllocError> {
     let mut rng = Pcg32::new(1, 54);
-    let weights = drawn::<EF>(alloc, &mut rng, WEIGHTS)?;
+    let weights = drawn::<EF>(alloc, &mut rng, 8)?;
+    if !weights.len().is_power_of_two() {
+        return Ok(false);
+    }
     let scalar = from_scalars::<F, EF>(Vec::from_slice(alloc, &weights)?);
-    let Some(packed) = in_two_packings::<F, EF>(alloc, &weights)? else {
+    let Some(packed) = packed_half::<F, EF>(alloc, &weights)? else {
         return Ok(false);
     };
     Ok(
