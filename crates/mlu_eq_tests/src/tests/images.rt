@@ -1,8 +1,9 @@
 //! The images of second halves in other rings.
-ghost use Rattle.std.specs.Prelude.{◌≡◌, IfOk, IfSome, length};
+ghost use Rattle.std.specs.Prelude.{◌≡◌, IfOk, IfSome, IsTrue, length};
+ghost use Rattle.std.specs.Int.{is_power_of_two};
 
-use mlu_eq::half::{from_packed, from_scalars, images, to_field};
-use mlu_eq::{EqMaybePacked, split};
+use mlu_eq::half::images;
+use mlu_eq::{EqMaybePacked, half, split};
 use mlu_ext::QuarticExtension;
 use mlu_lanes::{BabyBear, WrappingU64};
 use mlu_ring::{
@@ -13,6 +14,32 @@ use mlu_test_support::lanes::packed;
 use mlu_test_support::numbers::elements;
 use rand_pcg::Pcg32;
 use std::alloc::{AllocError, Global};
+
+/// The table of these weights, as scalars.
+fn scalar_half<F: Field, EF: ExtensionField<F>>(
+    alloc: Global,
+    weights: &[EF],
+) -> Result<EqMaybePacked<F, EF>, AllocError>
+    requires { IsTrue (is_power_of_two (length weights.now)) }
+    ensures { IfOk result (λ half. length half.weights ≡ length weights.now) }
+{
+    Ok(half::from_scalars(Vec::from_slice(alloc, weights)?))
+}
+
+/// The packed table of these weights, where they fill packings.
+fn packed_half<F: Field, EF: ExtensionField<F>>(
+    alloc: Global,
+    weights: &[EF],
+) -> Result<Option<EqMaybePacked<F, EF>>, AllocError>
+    ensures { IfOk result (λ half. IfSome half (λ table. length table.weights ≡ length weights.now)) }
+{
+    let groups = weights.len() / F::Packing::WIDTH;
+    if groups * F::Packing::WIDTH != weights.len() || !groups.is_power_of_two() {
+        return Ok(None);
+    }
+    let packed = packed::<F, EF>(alloc, weights, groups)?;
+    Ok(Some(half::from_packed(packed)))
+}
 
 /// The images of the weights, one by one.
 fn mapped<E: Additive, R: MapFrom<E>>(alloc: Global, weights: &[E]) -> Result<Vec<R>, AllocError> {
@@ -31,26 +58,11 @@ fn has_images<F: Field, EF: ExtensionField<F>, R: ExtensionField<R> + MapFrom<EF
 ) -> Result<bool, AllocError>
     requires { length eq1.now.weights ≡ length weights.now }
 {
-    let table = to_field::<F, EF, R>(eq1, alloc)?;
+    let table = half::to_field::<F, EF, R>(eq1, alloc)?;
     let one = elements::<R>(alloc, &[1])?;
     let mut out = R::zero_vec(alloc, weights.len())?;
     split::accumulate_into(&one, &table, &mut out, R::ONE);
     Ok(!table.is_packed() && out == mapped::<EF, R>(alloc, weights)?)
-}
-
-/// The table of these weights in lanes, where they fill packings.
-fn packed_half<F: Field, EF: ExtensionField<F>>(
-    alloc: Global,
-    weights: &[EF],
-) -> Result<Option<EqMaybePacked<F, EF>>, AllocError>
-    ensures { IfOk result (λ half. IfSome half (λ table. length table.weights ≡ length weights.now)) }
-{
-    let groups = weights.len() / F::Packing::WIDTH;
-    if groups * F::Packing::WIDTH != weights.len() || !groups.is_power_of_two() {
-        return Ok(None);
-    }
-    let packed = packed::<F, EF>(alloc, weights, groups)?;
-    Ok(Some(from_packed(packed)))
 }
 
 /// Whether tables of eight drawn weights, scalar and packed, have their images in the other ring.
@@ -59,10 +71,7 @@ fn images_agree<F: Field, EF: ExtensionField<F> + Sample, R: ExtensionField<R> +
 ) -> Result<bool, AllocError> {
     let mut rng = Pcg32::new(1, 54);
     let weights = drawn::<EF>(alloc, &mut rng, 8)?;
-    if !weights.len().is_power_of_two() {
-        return Ok(false);
-    }
-    let scalar = from_scalars::<F, EF>(Vec::from_slice(alloc, &weights)?);
+    let scalar = scalar_half::<F, EF>(alloc, &weights)?;
     let Some(packed) = packed_half::<F, EF>(alloc, &weights)? else {
         return Ok(false);
     };
