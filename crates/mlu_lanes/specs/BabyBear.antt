@@ -1,5 +1,5 @@
 -- The integers modulo 2013265921, as values of `BabyBear`.
-use Rattle.std.specs.Prelude.{◌≡◌, ℕ, ◌%◌, ◌<◌}
+use Rattle.std.specs.Prelude.{◌≡◌, ℕ, ◌*◌, ◌%◌, ◌^◌, ◌<◌}
 use Rattle.std.proofs.Common.{refl, lit<}
 use Rattle.std.proofs.Math.Nat.{mod-lt}
 use Rattle.std.specs.Coded.{le_prop}
@@ -30,6 +30,10 @@ module _ {W : ℕ} where
     same_value = same_canonical;
     value_below = canonical_below;
   }
+
+-- q is n over 2^32, modulo 2013265921: q times 2^32 has the residue of n
+abbrev pub IsQuotient : ℕ → ℕ → Type 0
+IsQuotient q n = q * 2 ^ 32 % MODULUS ≡ n % MODULUS
 
 -- sums and products of integers, modulo 2013265921
 abbrev pub baby_bear_ring : (W : ℕ) → Ring (BabyBear W)

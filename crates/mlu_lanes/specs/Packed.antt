@@ -1,5 +1,6 @@
 -- Packed residues, lane by lane.
 use Rattle.std.specs.Prelude.{◌≡◌, ℕ, List, slice_index_or}
+use Rattle.std.specs.Borrow.{Bor}
 use Rattle.mlu_lanes.specs.BabyBear.{canonical, reduced}
 use Rattle.mlu_lanes.specs.LaneRing.{values_of}
 use Rattle.mlu_lanes.specs.declared.baby_bear.BabyBear.{BabyBear}
@@ -12,6 +13,14 @@ residue p j = canonical (slice_index_or (values_of p) j (reduced 0))
 -- that of entry k
 abbrev pub residue_at : {W : ℕ} → List (BabyBear W) → ℕ → ℕ
 residue_at elements k = canonical (slice_index_or elements k (reduced 0))
+
+-- the least residues of four elements
+abbrev pub residues : {W : ℕ} → BabyBear W × BabyBear W × BabyBear W × BabyBear W → ℕ × ℕ × ℕ × ℕ
+residues l = (canonical l.0, canonical l.1, canonical l.2, canonical l.3)
+
+-- those of entry k of each of four slices
+abbrev pub residues_at : {W : ℕ} → Bor (List (BabyBear W)) × Bor (List (BabyBear W)) × Bor (List (BabyBear W)) × Bor (List (BabyBear W)) → ℕ → ℕ × ℕ × ℕ × ℕ
+residues_at l k = (residue_at l.0.now k, residue_at l.1.now k, residue_at l.2.now k, residue_at l.3.now k)
 
 -- these are lane k of four packed values
 abbrev pub IsLane : {W : ℕ} → Lanes (BabyBear W) W → Lanes (BabyBear W) W → Lanes (BabyBear W) W → Lanes (BabyBear W) W → ℕ → BabyBear W × BabyBear W × BabyBear W × BabyBear W → Type 0

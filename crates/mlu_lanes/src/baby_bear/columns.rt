@@ -1,7 +1,7 @@
 //! A column of coefficients times rows of four: products are added up in two halves of words, and
 //! reduced once.
 ghost use Rattle.std.specs.Prelude.{◌≡◌, ℕ, ◌+◌, ◌*◌, ◌%◌, ◌^◌, ◌<◌, ◌≤◌, length, slice_index};
-ghost use Rattle.mlu_lanes.specs.Columns.{column_of};
+ghost use Rattle.mlu_lanes.specs.Columns.{column_of, product_of_columns};
 ghost use Rattle.mlu_ring.specs.Tables.{pair};
 ghost use Rattle.mlu_lanes.specs.BabyBear.{baby_bear_ring, canonical, reduced};
 ghost use Rattle.mlu_lanes.specs.Packed.{residue_at};
@@ -54,8 +54,8 @@ fn residues_of_sums<const W: usize, E: Coefficients<BabyBear<W>>>(
     requires long { length l.now ≡ length r.now }
     requires column { a < 4 }
     requires four { E.count ≡ 4 }
-    ensures { (j : ℕ) → j < 4 → slice_index result j
-        ≡ canonical (pair (baby_bear_ring W) (column_of (reduced 0) E.list l.now a) (column_of (reduced 0) E.list r.now j)) }
+    ensures { (j : ℕ) → j < 4
+        → slice_index result j ≡ canonical (product_of_columns (baby_bear_ring W) E.list l.now a r.now j) }
 {
     if l.len() > MOST_PLACES {
         return column_times_many_rows(l, a, r);
@@ -72,8 +72,8 @@ fn column_times_many_rows<const W: usize, E: Coefficients<BabyBear<W>>>(
     requires long { length l.now ≡ length r.now }
     requires column { a < 4 }
     requires four { E.count ≡ 4 }
-    ensures { (j : ℕ) → j < 4 → slice_index result j
-        ≡ canonical (pair (baby_bear_ring W) (column_of (reduced 0) E.list l.now a) (column_of (reduced 0) E.list r.now j)) }
+    ensures { (j : ℕ) → j < 4
+        → slice_index result j ≡ canonical (product_of_columns (baby_bear_ring W) E.list l.now a r.now j) }
 {
     if l.len() <= MOST_PLACES {
         return column_times_few_rows(l, a, r);
@@ -96,8 +96,8 @@ fn column_times_few_rows<const W: usize, E: Coefficients<BabyBear<W>>>(
     requires most { length l.now ≤ MOST_PLACES }
     requires column { a < 4 }
     requires four { E.count ≡ 4 }
-    ensures { (j : ℕ) → j < 4 → slice_index result j
-        ≡ canonical (pair (baby_bear_ring W) (column_of (reduced 0) E.list l.now a) (column_of (reduced 0) E.list r.now j)) }
+    ensures { (j : ℕ) → j < 4
+        → slice_index result j ≡ canonical (product_of_columns (baby_bear_ring W) E.list l.now a r.now j) }
 {
     let mut lows = wide_all(0);
     let mut highs = wide_all(0);

@@ -1,8 +1,9 @@
 //! Sums of four products, four at a time: a row of residues times a matrix, and slices place by
 //! place.
-ghost use Rattle.std.specs.Prelude.{◌≡◌, ℕ, ◌+◌, ◌*◌, ◌%◌, ◌^◌, ◌<◌, length, slice_index, slice_index_or};
-ghost use Rattle.mlu_lanes.specs.BabyBear.{canonical, reduced};
-ghost use Rattle.mlu_lanes.specs.Packed.{residue_at};
+ghost use Rattle.std.specs.Prelude.{◌≡◌, ℕ, ◌+◌, ◌*◌, ◌%◌, ◌<◌, length, slice_index, slice_index_or};
+ghost use Rattle.mlu_lanes.specs.BabyBear.{canonical, reduced, IsQuotient};
+ghost use Rattle.mlu_lanes.specs.Packed.{residue_at, residues, residues_at};
+ghost use Rattle.mlu_lanes.specs.Words.{first_four, four_products, lanes_at};
 
 use super::montgomery::reduce_prepared;
 use super::packed::residue_products;
@@ -22,9 +23,7 @@ pub fn sum_of_rows<const W: usize>(
     requires second { (j : ℕ) → j < 4 → slice_index rows.now.1 j < MODULUS }
     requires third { (j : ℕ) → j < 4 → slice_index rows.now.2 j < MODULUS }
     requires fourth { (j : ℕ) → j < 4 → slice_index rows.now.3 j < MODULUS }
-    ensures { (j : ℕ) → j < 4 → slice_index result j
-        ≡ (canonical l.now.0 * slice_index rows.now.0 j + canonical l.now.1 * slice_index rows.now.1 j
-        + (canonical l.now.2 * slice_index rows.now.2 j + canonical l.now.3 * slice_index rows.now.3 j)) % MODULUS }
+    ensures { (j : ℕ) → j < 4 → slice_index result j ≡ four_products (residues l.now) (lanes_at rows.now j) % MODULUS }
 {
     reduce_each_word(unreduced_rows(l, rows))
 }
@@ -40,9 +39,7 @@ pub fn sum_of_prepared_rows<const W: usize>(
     requires third { (j : ℕ) → j < 4 → slice_index rows.now.2 j < MODULUS }
     requires fourth { (j : ℕ) → j < 4 → slice_index rows.now.3 j < MODULUS }
     ensures least { (j : ℕ) → j < 4 → slice_index result j < MODULUS }
-    ensures value { (j : ℕ) → j < 4 → slice_index result j * 2 ^ 32 % MODULUS
-        ≡ (canonical l.now.0 * slice_index rows.now.0 j + canonical l.now.1 * slice_index rows.now.1 j
-        + (canonical l.now.2 * slice_index rows.now.2 j + canonical l.now.3 * slice_index rows.now.3 j)) % MODULUS }
+    ensures value { (j : ℕ) → j < 4 → IsQuotient (slice_index result j) (four_products (residues l.now) (lanes_at rows.now j)) }
 {
     reduce_prepared(unreduced_rows(l, rows))
 }
@@ -57,9 +54,7 @@ pub fn unreduced_rows<const W: usize>(
     requires second { (j : ℕ) → j < 4 → slice_index rows.now.1 j < MODULUS }
     requires third { (j : ℕ) → j < 4 → slice_index rows.now.2 j < MODULUS }
     requires fourth { (j : ℕ) → j < 4 → slice_index rows.now.3 j < MODULUS }
-    ensures value { (j : ℕ) → j < 4 → slice_index result j
-        ≡ canonical l.now.0 * slice_index rows.now.0 j + canonical l.now.1 * slice_index rows.now.1 j
-        + (canonical l.now.2 * slice_index rows.now.2 j + canonical l.now.3 * slice_index rows.now.3 j) }
+    ensures value { (j : ℕ) → j < 4 → slice_index result j ≡ four_products (residues l.now) (lanes_at rows.now j) }
     ensures small { (j : ℕ) → j < 4 → slice_index result j < 4 * MODULUS * MODULUS }
 {
     let low = wide_sums(row_scaled(l.0.value, rows.0), row_scaled(l.1.value, rows.1));
@@ -134,11 +129,8 @@ pub fn sums_at<const W: usize>(
         × (k + 3 < length l.now.2.now) × (k + 3 < length l.now.3.now) }
     requires right { (k + 3 < length r.now.0.now) × (k + 3 < length r.now.1.now)
         × (k + 3 < length r.now.2.now) × (k + 3 < length r.now.3.now) }
-    ensures { (j : ℕ) → j < 4 → slice_index result j
-        ≡ (residue_at l.now.0.now (k + j) * residue_at r.now.0.now (k + j)
-        + residue_at l.now.1.now (k + j) * residue_at r.now.1.now (k + j)
-        + (residue_at l.now.2.now (k + j) * residue_at r.now.2.now (k + j)
-        + residue_at l.now.3.now (k + j) * residue_at r.now.3.now (k + j))) % MODULUS }
+    ensures { (j : ℕ) → j < 4
+        → slice_index result j ≡ four_products (residues_at l.now (k + j)) (residues_at r.now (k + j)) % MODULUS }
 {
     let low = wide_sums(
         residue_products(words_at(l.0, k), words_at(r.0, k)),
@@ -168,11 +160,8 @@ pub fn prepared_sums_at<const W: usize>(
         × (k + 3 < length l.now.2.now) × (k + 3 < length l.now.3.now) }
     requires least { (i : ℕ) → i < 4 → slice_index factors.now i < MODULUS }
     ensures least { (j : ℕ) → j < 4 → slice_index result j < MODULUS }
-    ensures value { (j : ℕ) → j < 4 → slice_index result j * 2 ^ 32 % MODULUS
-        ≡ (residue_at l.now.0.now (k + j) * slice_index factors.now 0
-        + residue_at l.now.1.now (k + j) * slice_index factors.now 1
-        + (residue_at l.now.2.now (k + j) * slice_index factors.now 2
-        + residue_at l.now.3.now (k + j) * slice_index factors.now 3)) % MODULUS }
+    ensures value { (j : ℕ) → j < 4
+        → IsQuotient (slice_index result j) (four_products (residues_at l.now (k + j)) (first_four factors.now)) }
 {
     let low = wide_sums(
         residue_products(words_at(l.0, k), all(factors[0])),

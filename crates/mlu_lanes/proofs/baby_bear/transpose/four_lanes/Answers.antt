@@ -1,5 +1,5 @@
 -- The words of a column are those of a lane.
-use Rattle.std.proofs.Common.{◌≡◌, ℕ, ◌+◌, List, get_or, slice_index, ap, ◌∙◌, arith, lit<}
+use Rattle.std.proofs.Common.{◌≡◌, ℕ, ◌+◌, List, get_or, ap, ◌∙◌, arith, lit<}
 use Rattle.mlu_lanes.specs.BabyBear.{canonical, reduced, same_canonical}
 use Rattle.mlu_lanes.specs.Packed.{residue_at}
 use Rattle.mlu_lanes.specs.declared.baby_bear.BabyBear.{BabyBear}
