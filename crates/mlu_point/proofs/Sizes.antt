@@ -4,6 +4,7 @@ use Rattle.std.specs.Prelude.{replicate}
 use Rattle.std.proofs.Math.Nat.{mul-div_cancel, mul-div-le, mul-le-mul_right}
 use Rattle.std.proofs.lemmas.Simd.{length-replicate}
 use Rattle.mlu_ring.specs.Matrices.{AreRows}
+use Rattle.mlu_point.specs.Batches.{share_places, IsRoom}
 
 -- n rows of the width of the scalars are n variables
 pub places-of_rows : (values scalars places n width : ℕ) → values ≡ n * width → scalars ≡ width → places ≡ 2 ^ n → 0 < scalars → places ≡ 2 ^ (values / scalars)
@@ -74,3 +75,10 @@ rows-left v o s below some whole sum within apart =
     let rows = fewer-rows v o s some whole sum in
     let fits : below ≤ o / s = omega (arith, rows, within, apart) in
     (fits, omega (arith, mul-le-mul_right s fits, mul-div-le o s))
+
+-- lists of the same lengths have the same room
+pub room-kept : {R P : Type 0} (width log_width variables : ℕ) (s t l m : List R) (p q : List P) → length t ≡ length s → length m ≡ length l → length q ≡ length p
+    → IsRoom width log_width variables s l p → IsRoom width log_width variables t m q
+room-kept width log_width variables s t l m p q scalars lanes packed room some =
+    let was = room some in
+    (was.0, lanes ∙ was.1, packed ∙ was.2 ∙ ap (share_places log_width variables) (sym scalars))

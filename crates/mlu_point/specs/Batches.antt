@@ -1,7 +1,10 @@
 -- What a batch writes, and how it splits its scalars.
-use Rattle.std.specs.Prelude.{◌≡◌, ℕ, ◌+◌, ◌-◌, ◌*◌, ◌<◌, ◌≤◌, Bool, List, [], ◌∷◌, ◌++◌, length, slice_index_or, if◌then◌else◌}
+use Rattle.std.specs.Prelude.{◌≡◌, ℕ, ◌+◌, ◌-◌, ◌*◌, ◌/◌, ◌^◌, ◌<◌, ◌≤◌, Bool, List, [], ◌∷◌, ◌++◌, length, map, slice_index_or, if◌then◌else◌}
 use Rattle.mlu_ring.specs.Ring.{Ring}
-use Rattle.mlu_ring.specs.Matrices.{batch, left_by}
+use Rattle.mlu_ring.specs.Lanes.{logical}
+use Rattle.mlu_ring.specs.Matrices.{batch, column, left_by, row_at}
+use Rattle.mlu_ring.specs.Tables.{weights}
+use Rattle.mlu_ring.specs.declared.matrix.RowMajorMatrixView.{RowMajorMatrixView}
 
 -- the output with the batch of the points in the columns of the values: the batch itself, or its sums with what stood there
 abbrev pub with_batch : {R : Type 0} → Ring R → Bool → List R → List R → List R → List R
@@ -52,6 +55,45 @@ pair_lanes lanes p = lanes p.0 ++ lanes p.1
 abbrev pub pair_image : {C P : Type 0} → (C → P) → C → P × P
 pair_image image c = (image c, image c)
 
--- the room for packed shares where so many variables of so many points are left to them: a buffer for the lanes of four, and four places for each point and each of its coordinates that is none of theirs
-abbrev pub IsRoom : ℕ → ℕ → ℕ → ℕ → ℕ → ℕ → Type 0
-IsRoom width log_width variables points lanes packed = 0 < variables → (log_width + 2 ≤ variables) × (lanes ≡ 4 * width) × (packed ≡ 4 * ((variables - (log_width + 2)) * points + points))
+-- four elements, two by two
+abbrev pub two_pairs : {A : Type 0} → A × A × A × A → (A × A) × (A × A)
+two_pairs four = ((four.0, four.1), (four.2, four.3))
+
+-- the elements four by four
+abbrev pub fours : {A : Type 0} → List A → List ((A × A) × (A × A))
+fours xs = pairs (pairs xs)
+
+-- fours of elements of a ring, place by place
+abbrev pub four_ring : {R : Type 0} → Ring R → Ring ((R × R) × (R × R))
+four_ring ring = pair_ring (pair_ring ring)
+
+-- the lanes of four values, joined in order
+abbrev pub four_lanes : {P V : Type 0} → (P → List V) → (P × P) × (P × P) → List V
+four_lanes lanes = pair_lanes (pair_lanes lanes)
+
+-- the image four times
+abbrev pub four_image : {C P : Type 0} → (C → P) → C → (P × P) × (P × P)
+four_image image = pair_image (pair_image image)
+
+-- the lanes, joined in order, of the batch of the points in the columns of a view, where the share of each is four packed values
+abbrev pub packed_batch : {C P V : Type 0} → (P → List V) → Ring P → (C → P) → RowMajorMatrixView C → List P → List V
+packed_batch lanes ring image evals shares =
+    logical (four_lanes lanes) (batch (four_ring ring) (map (four_image image) evals.values.now) (fours shares) (2 ^ (length evals.values.now / evals.width)))
+
+-- the scale times each weight at the point in column i of values in rows of so many
+abbrev pub column_weights : {R : Type 0} → Ring R → R → List R → ℕ → ℕ → List R
+column_weights ring scale values points i = map (λ w. ring.product scale w) (weights ring (column ring values points i))
+
+-- the lanes of the four values of share i, joined in order, are scalar i times the weights at its point
+abbrev pub ArePacked : {P R : Type 0} → Ring R → (P → List R) → List P → List R → List R → Type 0
+ArePacked ring lanes shares scalars values = (i : ℕ) → i < length scalars
+    → logical lanes (row_at 4 shares i) ≡ column_weights ring (slice_index_or scalars i ring.zero) values (length scalars) i
+
+-- the places for packed shares: four for each point, and four more for each of its coordinates that stands neither for lanes nor for the four values
+abbrev pub share_places : ℕ → ℕ → ℕ → ℕ
+share_places log_width variables points = 4 * ((variables - (log_width + 2)) * points + points)
+
+-- the room for packed shares where so many variables are left to them: a buffer for the lanes of four, and their places
+abbrev pub IsRoom : {R P : Type 0} → ℕ → ℕ → ℕ → List R → List R → List P → Type 0
+IsRoom width log_width variables scalars lanes packed =
+    0 < variables → (log_width + 2 ≤ variables) × (length lanes ≡ 4 * width) × (length packed ≡ share_places log_width variables (length scalars))

@@ -4,8 +4,8 @@
 //! one share for the lower half of the output and one for the upper half. The first variables give
 //! the chunks of the output; in a chunk of enough variables the last ones are the lanes of shares of
 //! four packed values, and those between split these.
-ghost use Rattle.std.specs.Prelude.{◌≡◌, ◌+◌, ◌-◌, ◌*◌, ◌<◌, ◌≤◌, ◌/◌, ◌^◌, ◌++◌, length, map, replicate, is_ok, IsOk, IfOk, if◌then◌else◌};
-ghost use Rattle.mlu_point.specs.Batches.{with_batch, after_batch, IsRoom};
+ghost use Rattle.std.specs.Prelude.{◌≡◌, ◌+◌, ◌*◌, ◌<◌, ◌≤◌, ◌/◌, ◌^◌, ◌++◌, length, map, replicate, is_ok, IsOk, IfOk, if◌then◌else◌};
+ghost use Rattle.mlu_point.specs.Batches.{with_batch, after_batch, share_places, IsRoom};
 
 mod evaluator;
 mod fours;
@@ -185,8 +185,7 @@ fn packed_space<F: Field, EF: ExtensionField<F>>(
 ) -> Result<Vec<EF::ExtensionPacking>, AllocError>
     requires fits { variables * points < 2 ^ 64 }
     requires lanes { 0 < variables → F.Packing.LOG_WIDTH + 2 ≤ variables }
-    ensures some { IfOk result (λ space. 0 < variables → length space.items
-        ≡ 4 * ((variables - (F.Packing.LOG_WIDTH + 2)) * points + points)) }
+    ensures some { IfOk result (λ space. 0 < variables → length space.items ≡ share_places F.Packing.LOG_WIDTH variables points) }
     ensures none { variables ≡ 0 → IfOk result (λ space. length space.items ≡ 0) }
 {
     if variables == 0 {
@@ -237,7 +236,7 @@ fn add_tables<
     requires width { evals.width ≡ length scalars.old }
     requires below { below ≤ length evals.values.now / length scalars.old }
     requires space { length space.old + below * length scalars.old ≡ length evals.values.now }
-    requires room { IsRoom F.Packing.WIDTH F.Packing.LOG_WIDTH below (length scalars.old) (length lanes.old) (length packed.old) }
+    requires room { IsRoom F.Packing.WIDTH F.Packing.LOG_WIDTH below scalars.old lanes.old packed.old }
     requires size { length out.old ≡ 2 ^ (length evals.values.now / length scalars.old) }
     ensures { out.new ≡ with_batch EF.ring INITIALIZED out.old (map E.image evals.entry.values.now) scalars.old }
 {
@@ -271,7 +270,7 @@ fn add_rest<
     requires some { 0 < length scalars.now }
     requires width { evals.width ≡ length scalars.now }
     requires room { IsRoom F.Packing.WIDTH F.Packing.LOG_WIDTH (length evals.values.now / length scalars.now)
-        (length scalars.now) (length lanes.old) (length packed.old) }
+        scalars.now lanes.old packed.old }
     requires size { length out.old ≡ 2 ^ (length evals.values.now / length scalars.now) }
     ensures { out.new ≡ with_batch EF.ring INITIALIZED out.old (map E.image evals.entry.values.now) scalars.now }
 {

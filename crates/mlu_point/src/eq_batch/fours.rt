@@ -2,7 +2,7 @@
 //! four.
 ghost use Rattle.std.specs.Prelude.{◌≡◌, ℕ, ◌+◌, ◌*◌, ◌%◌, ◌<◌, ◌≤◌, length, slice_index_or};
 ghost use Rattle.mlu_ring.specs.Sums.{sum_of};
-ghost use Rattle.mlu_point.specs.Batches.{lower_share, upper_share, pair_image, pair_ring, pairs, AreFourShares, AreShares};
+ghost use Rattle.mlu_point.specs.Batches.{lower_share, upper_share, four_image, four_ring, fours, two_pairs, AreFourShares, AreShares};
 
 use crate::evaluator::EqualityEvaluator;
 use mlu_ring::{Additive, PrimeCharacteristicRing};
@@ -19,10 +19,8 @@ pub(super) fn split_fours<C: Additive, S: PrimeCharacteristicRing, E: EqualityEv
 )
     requires low { length low.old ≡ 4 * length coordinates.now }
     requires high { length high.old ≡ length low.old }
-    ensures upper { AreShares (upper_share (pair_ring (pair_ring S.ring)) (pair_image (pair_image E.image)))
-        (pairs (pairs high.new)) (pairs (pairs low.old)) coordinates.now }
-    ensures lower { AreShares (lower_share (pair_ring (pair_ring S.ring)) (pair_image (pair_image E.image)))
-        (pairs (pairs low.new)) (pairs (pairs low.old)) coordinates.now }
+    ensures upper { AreShares (upper_share (four_ring S.ring) (four_image E.image)) (fours high.new) (fours low.old) coordinates.now }
+    ensures lower { AreShares (lower_share (four_ring S.ring) (four_image E.image)) (fours low.new) (fours low.old) coordinates.now }
 {
     for i in 0..coordinates.len() {
         split_four::<C, S, E>(low, high, FOUR * i, coordinates[i]);
@@ -56,7 +54,7 @@ fn split_four<C: Additive, S: PrimeCharacteristicRing, E: EqualityEvaluator<C, S
 pub(super) fn sum_of_fours<S: Additive>(shares: &[S]) -> (S, S, S, S)
     requires fours { length shares.now % 4 ≡ 0 }
     requires some { 0 < length shares.now }
-    ensures { ((result.0, result.1), (result.2, result.3)) ≡ sum_of (pair_ring (pair_ring S.ring)) (pairs (pairs shares.now)) }
+    ensures { two_pairs result ≡ sum_of (four_ring S.ring) (fours shares.now) }
 {
     let mut sums = (shares[0], shares[1], shares[2], shares[3]);
     for i in 1..shares.len() / FOUR {

@@ -1,10 +1,9 @@
 //! Batches of a chunk, by packed shares: the last variables are their lanes, and the two before these
 //! the four values of a share.
-ghost use Rattle.std.specs.Prelude.{◌≡◌, ℕ, ◌+◌, ◌-◌, ◌*◌, ◌/◌, ◌<◌, ◌≤◌, ◌^◌, drop, length, map, slice_index_or, take};
+ghost use Rattle.std.specs.Prelude.{◌≡◌, ◌+◌, ◌*◌, ◌/◌, ◌<◌, ◌≤◌, ◌^◌, drop, length, map, take};
 ghost use Rattle.mlu_ring.specs.Lanes.{logical};
-ghost use Rattle.mlu_ring.specs.Matrices.{batch, column, left_by, row_at};
-ghost use Rattle.mlu_ring.specs.Tables.{weights};
-ghost use Rattle.mlu_point.specs.Batches.{pair_image, pair_lanes, pair_ring, pairs, with_batch};
+ghost use Rattle.mlu_ring.specs.Matrices.{left_by};
+ghost use Rattle.mlu_point.specs.Batches.{column_weights, four_lanes, packed_batch, pair_lanes, share_places, two_pairs, with_batch, ArePacked};
 
 use super::evaluator::{InLanes, PackedEvaluator};
 use super::fours::{FOUR, split_fours, sum_of_fours};
@@ -40,7 +39,7 @@ pub(super) fn add_chunk<
     requires variables { F.Packing.LOG_WIDTH + 2 ≤ length evals.values.now / length scalars.now }
     requires lanes { length lanes.old ≡ 4 * F.Packing.WIDTH }
     requires packed { length packed.old
-        ≡ 4 * ((length evals.values.now / length scalars.now - (F.Packing.LOG_WIDTH + 2)) * length scalars.now + length scalars.now) }
+        ≡ share_places F.Packing.LOG_WIDTH (length evals.values.now / length scalars.now) (length scalars.now) }
     requires size { length out.old ≡ 2 ^ (length evals.values.now / length scalars.now) }
     ensures { out.new ≡ with_batch EF.ring INITIALIZED out.old (map E.image evals.entry.values.now) scalars.now }
 {
@@ -63,9 +62,7 @@ fn pack_shares<F: Field, EF: ExtensionField<F>, C: Additive, E: EqualityEvaluato
     requires width { evals.width ≡ length scalars.now }
     requires size { 2 ^ (length evals.values.now / length scalars.now) ≡ 4 * F.Packing.WIDTH }
     requires lanes { length lanes.old ≡ 4 * F.Packing.WIDTH }
-    ensures { (i : ℕ) → i < length scalars.now → logical EF.ExtensionPacking.ext_lanes (row_at 4 shares.new i)
-        ≡ map (λ w. EF.ring.product (slice_index_or scalars.now i EF.ring.zero) w)
-        (weights EF.ring (column EF.ring (map E.image evals.entry.values.now) (length scalars.now) i)) }
+    ensures { ArePacked EF.ring EF.ExtensionPacking.ext_lanes shares.new scalars.now (map E.image evals.entry.values.now) }
 {
     for i in 0..scalars.len() {
         fill_column::<C, EF, E>(lanes, evals, i, scalars[i]);
@@ -98,8 +95,7 @@ fn fill_column<C: Additive, S: PrimeCharacteristicRing, E: EqualityEvaluator<C, 
 )
     requires column { i < evals.width }
     requires size { length out.old ≡ 2 ^ (length evals.values.now / evals.width) }
-    ensures { out.new ≡ map (λ w. S.ring.product scale w)
-        (weights S.ring (column S.ring (map E.image evals.entry.values.now) evals.entry.width i)) }
+    ensures { out.new ≡ column_weights S.ring scale (map E.image evals.entry.values.now) evals.entry.width i }
 {
     if evals.height() == 0 {
         out[0] = scale;
@@ -131,9 +127,8 @@ fn add_groups<
     requires shares { length shares.old ≡ 4 * evals.width }
     requires space { length space.old ≡ 4 * length evals.values.now }
     requires size { length out.old ≡ 2 ^ (length evals.values.now / evals.width) * (4 * F.Packing.WIDTH) }
-    ensures { out.new ≡ left_by EF.ring INITIALIZED out.old (logical (pair_lanes (pair_lanes EF.ExtensionPacking.ext_lanes))
-        (batch (pair_ring (pair_ring EF.ExtensionPacking.ring)) (map (pair_image (pair_image E.packed_image)) evals.entry.values.now)
-        (pairs (pairs shares.old)) (2 ^ (length evals.entry.values.now / evals.entry.width)))) }
+    ensures { out.new ≡ left_by EF.ring INITIALIZED out.old
+        (packed_batch EF.ExtensionPacking.ext_lanes EF.ExtensionPacking.ring E.packed_image evals.entry shares.old) }
 {
     if evals.height() == 0 {
         write_or_add_four::<F, EF, INITIALIZED>(out, &sum_of_fours(shares));
@@ -159,8 +154,7 @@ fn write_or_add_four<F: Field, EF: ExtensionField<F>, const INITIALIZED: bool>(
     ),
 )
     requires { length out.old ≡ 4 * F.Packing.WIDTH }
-    ensures { out.new ≡ left_by EF.ring INITIALIZED out.old (pair_lanes (pair_lanes EF.ExtensionPacking.ext_lanes)
-        ((values.now.0, values.now.1), (values.now.2, values.now.3))) }
+    ensures { out.new ≡ left_by EF.ring INITIALIZED out.old (four_lanes EF.ExtensionPacking.ext_lanes (two_pairs values.now)) }
 {
     let half = out.len() / 2;
     let (low, high) = out.split_at_mut(half);

@@ -1,6 +1,5 @@
-use Rattle.std.proofs.Common.{◌≡◌, ◌+◌, ◌*◌, ◌/◌, ◌^◌, ◌<◌, ◌≤◌, length, ap, sym, subst, ◌∙◌, arith, rules}
-use Rattle.mlu_point.specs.Batches.{IsRoom}
-use Rattle.mlu_point.proofs.Sizes.{split-sizes, rows-left}
+use Rattle.std.proofs.Common.{◌≡◌, refl, ◌+◌, ◌*◌, ◌/◌, ◌^◌, ◌<◌, ◌≤◌, length, ap, sym, subst, ◌∙◌, arith, rules}
+use Rattle.mlu_point.proofs.Sizes.{split-sizes, rows-left, room-kept}
 use Rattle.mlu_point.proofs.Halves.{halves-batch}
 use Rattle.mlu_point.proofs.eq_batch.+add_tables.Goals as goal
 
@@ -23,7 +22,7 @@ add_tables-requires g t c =
     let below : c.args.below ≤ length others / length scalars = subst (λ n. c.args.below ≤ length others / n) (sym long) left.0 in
     let space : length c.split_at_mut-high_scalars.result.1.now + c.args.below * length scalars ≡ length others =
     ap (λ n. length c.split_at_mut-high_scalars.result.1.now + c.args.below * n) long ∙ omega (arith, sizes.1, left.1, c.requires.space, c.split_at_mut-high_scalars.ensures.back_len) in
-    let room : IsRoom packing.WIDTH packing.LOG_WIDTH c.args.below (length scalars) (length c.args.lanes.now) (length c.args.packed.now) = subst (λ n. IsRoom packing.WIDTH packing.LOG_WIDTH c.args.below n (length c.args.lanes.now) (length c.args.packed.now)) (sym long) c.requires.room in
+    let room = room-kept packing.WIDTH packing.LOG_WIDTH c.args.below c.args.scalars.now scalars c.args.lanes.now c.args.lanes.now c.args.packed.now c.args.packed.now long refl refl c.requires.room in
     let size : length c.split_at_mut-low.result.1.now ≡ 2 ^ (length others / length scalars) = sizes.3 ∙ ap (λ n. 2 ^ (length others / n)) (sym long) in
     search rules
 
@@ -48,10 +47,7 @@ add_tables-requires-2 g t c =
     let below : c.args.below ≤ length others / length scalars = subst (λ n. c.args.below ≤ length others / n) (sym long) left.0 in
     let space : length c.add_tables.new.space + c.args.below * length scalars ≡ length others =
     ap (λ n. length c.add_tables.new.space + c.args.below * n) long ∙ omega (arith, sizes.1, left.1, c.requires.space, c.split_at_mut-high_scalars.ensures.back_len, c.add_tables.auto.space) in
-    let room : IsRoom packing.WIDTH packing.LOG_WIDTH c.args.below (length scalars) (length lanes) (length packed) =
-    subst (λ n. IsRoom packing.WIDTH packing.LOG_WIDTH c.args.below (length scalars) (length lanes) n) (sym c.add_tables.auto.packed)
-    (subst (λ n. IsRoom packing.WIDTH packing.LOG_WIDTH c.args.below (length scalars) n (length c.args.packed.now)) (sym c.add_tables.auto.lanes)
-    (subst (λ n. IsRoom packing.WIDTH packing.LOG_WIDTH c.args.below n (length c.args.lanes.now) (length c.args.packed.now)) (sym long) c.requires.room)) in
+    let room = room-kept packing.WIDTH packing.LOG_WIDTH c.args.below c.args.scalars.now scalars c.args.lanes.now lanes c.args.packed.now packed long c.add_tables.auto.lanes c.add_tables.auto.packed c.requires.room in
     let size : length c.split_at_mut-low.result.0.now ≡ 2 ^ (length others / length scalars) = sizes.2 ∙ ap (λ n. 2 ^ (length others / n)) (sym long) in
     search rules
 
