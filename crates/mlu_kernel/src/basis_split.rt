@@ -8,9 +8,9 @@ ghost use Rattle.std.specs.List.{All};
 ghost use Rattle.std.specs.Mem.{type_size};
 ghost use Rattle.mlu_ring.specs.Lanes.{logical};
 ghost use Rattle.mlu_ring.specs.Matrices.{row_at};
-ghost use Rattle.mlu_ring.specs.Sums.{sum_of};
 ghost use Rattle.mlu_ring.specs.Tables.{pair};
 ghost use Rattle.mlu_kernel.specs.Columns.{column, AreColumns};
+ghost use Rattle.mlu_kernel.specs.Kernels.{HasDot};
 
 use crate::basis_dot::packed_basis_dot;
 use crate::small::SMALL_BYTES;
@@ -36,7 +36,7 @@ pub(crate) fn split_coefficients<F: Field, EF: ExtensionField<F>, const D: usize
     requires short { length weights.now ≤ MOST_WEIGHTS }
     requires small { type_size F.Packing.row < SMALL_BYTES }
     ensures { AreColumns EF.ExtensionPacking.packed_coefficients F.Packing.ring.zero EF.DIMENSION
-        (type_size F.Packing.row) weights.now result }
+        F.Packing.row weights.now result }
 {
     let mut split = [[F::Packing::ZERO; MOST_WEIGHTS]; D];
     for k in 0..D {
@@ -77,13 +77,12 @@ pub(crate) fn row_dot_by_columns<F: Field, EF: ExtensionField<F>, const D: usize
     j: usize,
 ) -> EF::ExtensionPacking
     requires split { AreColumns EF.ExtensionPacking.packed_coefficients F.Packing.ring.zero EF.DIMENSION
-        (type_size F.Packing.row) weights.now split.now }
+        F.Packing.row weights.now split.now }
     requires places { length blocks.old ≡ length weights.now }
     requires entries { length chunk.now ≡ rows * (length weights.now * F.Packing.WIDTH) }
     requires row { j < rows }
-    ensures { sum_of EF.ring (EF.ExtensionPacking.ext_lanes result)
-        ≡ pair EF.ring (logical EF.ExtensionPacking.ext_lanes weights.now)
-        (map EF.embed (row_at (length weights.now * F.Packing.WIDTH) chunk.now j)) }
+    ensures { HasDot EF.ring EF.ExtensionPacking.ext_lanes weights.now
+        (map EF.embed (row_at (length weights.now * F.Packing.WIDTH) chunk.now j)) result }
 {
     load_row(blocks, row_of(chunk, rows, j));
     let sums = column_dots::<F, D>(split, blocks);

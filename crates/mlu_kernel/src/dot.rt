@@ -69,7 +69,7 @@ fn rows_by_columns<F: Field, EF: ExtensionField<F>, const D: usize>(
     eq0: &[EF],
 ) -> EF
     requires split { AreColumns EF.ExtensionPacking.packed_coefficients F.Packing.ring.zero EF.DIMENSION
-        (type_size F.Packing.row) eq1.now split.now }
+        F.Packing.row eq1.now split.now }
     requires entries { length chunk.now ≡ length eq0.now * (length eq1.now * F.Packing.WIDTH) }
     ensures { result ≡ double_sum EF.ring eq0.now
         (logical EF.ExtensionPacking.ext_lanes eq1.now) (map EF.embed chunk.now) }

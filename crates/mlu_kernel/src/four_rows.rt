@@ -3,12 +3,12 @@
 //! Each coefficient of an output grows by the weighted coefficients of four rows at once, which
 //! [`Field::mixed_dot4`] sums before it reduces. Rows are read from front to back, and the sums
 //! stand in the output, so no memory is taken.
-ghost use Rattle.std.specs.Prelude.{◌≡◌, ◌+◌, ◌*◌, ◌%◌, ◌≤◌, ◌<◌, IsTrue, length, map, slice_index_or};
+ghost use Rattle.std.specs.Prelude.{◌≡◌, ◌+◌, ◌*◌, ◌%◌, ◌≤◌, ◌<◌, IsTrue, length};
 ghost use Rattle.std.specs.Mem.{type_size};
-ghost use Rattle.mlu_ring.specs.Lanes.{logical, splat_of};
+ghost use Rattle.mlu_ring.specs.Lanes.{splat_of};
 ghost use Rattle.mlu_ring.specs.Matrices.{row_at};
-ghost use Rattle.mlu_ring.specs.Tables.{pair};
-ghost use Rattle.mlu_kernel.specs.Kernels.{plus_rows};
+ghost use Rattle.mlu_kernel.specs.Columns.{grown, AreSmall};
+ghost use Rattle.mlu_kernel.specs.Kernels.{AddsBlocks, AddsRows, AddsRowsByLane};
 
 use crate::small::{SMALL_BYTES, is_small};
 use mlu_ring::{
@@ -24,8 +24,7 @@ const FOUR: usize = 4;
 /// once the types are known.
 #[inline]
 pub(crate) fn takes_fours<F: Field, EF: ExtensionField<F>>() -> bool
-    ensures { IsTrue result → (F.Packing.WIDTH % 4 ≡ 0) × (type_size F.row < SMALL_BYTES)
-        × (type_size F.Packing.row < SMALL_BYTES) × (type_size EF.row < SMALL_BYTES) }
+    ensures { IsTrue result → (F.Packing.WIDTH % 4 ≡ 0) × AreSmall F.row F.Packing.row EF.row }
 {
     F::Packing::WIDTH % 4 == 0
         && is_small(&F::ZERO)
@@ -44,10 +43,8 @@ pub(crate) fn compress_by_four<F: Field, EF: ExtensionField<F>>(
 )
     requires rows { length chunk.now ≡ length eq1.now * (F.Packing.WIDTH * (length out.old * F.Packing.WIDTH)) }
     requires fours { F.Packing.WIDTH % 4 ≡ 0 }
-    requires small { (type_size F.row < SMALL_BYTES) × (type_size F.Packing.row < SMALL_BYTES) × (type_size EF.row < SMALL_BYTES) }
-    ensures sum { logical EF.ExtensionPacking.ext_lanes out.new
-        ≡ plus_rows EF.ring (logical EF.ExtensionPacking.ext_lanes out.old)
-        (map (EF.ring.product w0) (logical EF.ExtensionPacking.ext_lanes eq1.now)) (map EF.embed chunk.now) }
+    requires small { AreSmall F.row F.Packing.row EF.row }
+    ensures sum { AddsRowsByLane EF.ring EF.embed EF.ExtensionPacking.ext_lanes w0 eq1.now chunk.now out.old out.new }
 {
     for i in 0..eq1.len() {
         add_rows_by_four::<F, EF>(out, eq1[i].scale(w0), row_of(chunk, eq1.len(), i));
@@ -63,10 +60,9 @@ fn add_rows_by_four<F: Field, EF: ExtensionField<F>>(
 )
     requires rows { length rows.now ≡ F.Packing.WIDTH * (length out.old * F.Packing.WIDTH) }
     requires fours { F.Packing.WIDTH % 4 ≡ 0 }
-    requires small { (type_size F.row < SMALL_BYTES) × (type_size F.Packing.row < SMALL_BYTES) × (type_size EF.row < SMALL_BYTES) }
-    ensures { logical EF.ExtensionPacking.ext_lanes out.new
-        ≡ plus_rows EF.ring (logical EF.ExtensionPacking.ext_lanes out.old)
-        (EF.ExtensionPacking.ext_lanes weights) (map EF.embed rows.now) }
+    requires small { AreSmall F.row F.Packing.row EF.row }
+    ensures { AddsRows EF.ring EF.embed EF.ExtensionPacking.ext_lanes
+        (EF.ExtensionPacking.ext_lanes weights) rows.now out.old out.new }
 {
     let fours = F::Packing::WIDTH / 4;
     for i in 0..fours {
@@ -91,9 +87,7 @@ fn add_four_rows<F: Field, EF: ExtensionField<F>>(
     requires weights { length weights.now ≡ 4 }
     requires rows { length rows.now ≡ 4 * (length out.old * F.Packing.WIDTH) }
     requires small { (type_size F.row < SMALL_BYTES) × (type_size F.Packing.row < SMALL_BYTES) }
-    ensures { logical EF.ExtensionPacking.ext_lanes out.new
-        ≡ plus_rows EF.ring (logical EF.ExtensionPacking.ext_lanes out.old)
-        weights.now (map EF.embed rows.now) }
+    ensures { AddsRows EF.ring EF.embed EF.ExtensionPacking.ext_lanes weights.now rows.now out.old out.new }
 {
     let first = row_of(rows, 4, 0);
     let second = row_of(rows, 4, 1);
@@ -129,9 +123,7 @@ fn plus_four_products<F: Field, EF: ExtensionField<F>>(
     requires blocks { length blocks.now ≡ 4 }
     requires weights { length weights.now ≡ 4 }
     requires small { type_size F.row < SMALL_BYTES }
-    ensures { EF.ExtensionPacking.ext_lanes result
-        ≡ plus_rows EF.ring (EF.ExtensionPacking.ext_lanes packed)
-        weights.now (map EF.embed (logical F.Packing.lanes blocks.now)) }
+    ensures { AddsBlocks EF.ring EF.embed EF.ExtensionPacking.ext_lanes F.Packing.lanes weights.now blocks.now packed result }
 {
     if EF::DIMENSION == FOUR {
         return packed_of_four::<F, EF>(
@@ -161,9 +153,8 @@ fn grown_coefficient<F: Field, EF: ExtensionField<F>>(
     requires blocks { length blocks.now ≡ 4 }
     requires weights { length weights.now ≡ 4 }
     requires small { type_size F.row < SMALL_BYTES }
-    ensures { result ≡ F.Packing.ring.sum (slice_index_or (EF.ExtensionPacking.packed_coefficients packed) k F.Packing.ring.zero)
-        (pair F.Packing.ring blocks.now (map (splat_of F.Packing.WIDTH F.Packing.of_lanes)
-        (map (λ w. slice_index_or (EF.coefficients w) k F.ring.zero) weights.now))) }
+    ensures { result ≡ grown F.Packing.ring (splat_of F.Packing.WIDTH F.Packing.of_lanes) EF.coefficients F.ring.zero k
+        (EF.ExtensionPacking.packed_coefficients packed) blocks.now weights.now }
 {
     let coefficients = [
         weights[0].coefficient(k),

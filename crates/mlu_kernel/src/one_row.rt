@@ -1,10 +1,8 @@
 //! One row against packed values. These calls are for the split tables of `mlu_eq`, not for users
 //! of the library.
 ghost use Rattle.std.specs.Prelude.{◌≡◌, ◌∷◌, [], ◌*◌, length, map};
-ghost use Rattle.mlu_ring.specs.Lanes.{logical};
 ghost use Rattle.mlu_ring.specs.Sums.{sum_of};
-ghost use Rattle.mlu_ring.specs.Tables.{pair};
-ghost use Rattle.mlu_kernel.specs.Kernels.{plus_rows};
+ghost use Rattle.mlu_kernel.specs.Kernels.{AddsRows, HasDot};
 
 use mlu_ring::{
     Additive, Algebra, ExtensionField, Field, Lanewise, PackedFieldExtension, PackedValue,
@@ -19,8 +17,7 @@ pub fn row_dot_in_lanes<F: Field, EF: ExtensionField<F>>(
     row: &[F],
 ) -> EF::ExtensionPacking
     requires { length row.now ≡ length weights.now * F.Packing.WIDTH }
-    ensures { sum_of EF.ring (EF.ExtensionPacking.ext_lanes result)
-        ≡ pair EF.ring (logical EF.ExtensionPacking.ext_lanes weights.now) (map EF.embed row.now) }
+    ensures { HasDot EF.ring EF.ExtensionPacking.ext_lanes weights.now (map EF.embed row.now) result }
 {
     let mut sum = EF::ExtensionPacking::ZERO;
     for i in 0..weights.len() {
@@ -50,9 +47,7 @@ pub fn add_row_times<F: Field, EF: ExtensionField<F>>(
     row: &[F],
 )
     requires { length row.now ≡ length out.old * F.Packing.WIDTH }
-    ensures { logical EF.ExtensionPacking.ext_lanes out.new
-        ≡ plus_rows EF.ring (logical EF.ExtensionPacking.ext_lanes out.old)
-        (weight ∷ []) (map EF.embed row.now) }
+    ensures { AddsRows EF.ring EF.embed EF.ExtensionPacking.ext_lanes (weight ∷ []) row.now out.old out.new }
 {
     for z in 0..out.len() {
         let block = F::Packing::load(row_of_width(row, F::Packing::WIDTH, z));

@@ -1,7 +1,7 @@
 //! Packed weights of rows, whose weighted rows are added to a packed output.
 ghost use Rattle.std.specs.Prelude.{◌≡◌, ◌*◌, length, map};
 ghost use Rattle.mlu_ring.specs.Lanes.{logical};
-ghost use Rattle.mlu_kernel.specs.Kernels.{plus_rows};
+ghost use Rattle.mlu_kernel.specs.Kernels.{plus_rows, AddsRows};
 
 use crate::four_rows::{compress_by_four, takes_fours};
 use crate::one_row::add_row_times;
@@ -57,9 +57,8 @@ fn add_rows_by_lane<F: Field, EF: ExtensionField<F>>(
     rows: &[F],
 )
     requires { length rows.now ≡ F.Packing.WIDTH * (length out.old * F.Packing.WIDTH) }
-    ensures { logical EF.ExtensionPacking.ext_lanes out.new
-        ≡ plus_rows EF.ring (logical EF.ExtensionPacking.ext_lanes out.old)
-        (EF.ExtensionPacking.ext_lanes weights) (map EF.embed rows.now) }
+    ensures { AddsRows EF.ring EF.embed EF.ExtensionPacking.ext_lanes
+        (EF.ExtensionPacking.ext_lanes weights) rows.now out.old out.new }
 {
     for k in 0..F::Packing::WIDTH {
         add_row_times::<F, EF>(out, weights.ext_lane(k), row_of(rows, F::Packing::WIDTH, k));
