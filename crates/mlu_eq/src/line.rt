@@ -4,7 +4,7 @@
 //! `r`. Where one factor is a base element, the product costs one product of the base for each
 //! coefficient.
 ghost use Rattle.std.specs.Prelude.{◌≡◌};
-ghost use Rattle.mlu_eq.specs.Combine.{combined, interpolated};
+ghost use Rattle.mlu_eq.specs.Combine.{combined, interpolated, interpolated_images};
 
 use mlu_ring::{Additive, Algebra, ExtensionField, Field, PrimeCharacteristicRing, scale_packing};
 
@@ -39,9 +39,8 @@ pub fn interpolate_packing<F: Field, EF: ExtensionField<F>>(
     high: F::Packing,
     r: EF,
 ) -> EF::ExtensionPacking
-    ensures { result ≡ interpolated EF.ExtensionPacking.ring (⟦<EF::ExtensionPacking as Algebra<EF>>⟧.embed r)
-        (⟦<EF::ExtensionPacking as Algebra<F::Packing>>⟧.embed low)
-        (⟦<EF::ExtensionPacking as Algebra<F::Packing>>⟧.embed high) }
+    ensures { result ≡ interpolated_images EF.ExtensionPacking.ring ⟦<EF::ExtensionPacking as Algebra<EF>>⟧.embed
+        ⟦<EF::ExtensionPacking as Algebra<F::Packing>>⟧.embed r low high }
 {
     scale_packing::<F, EF>(r, high - low).plus(low)
 }

@@ -3,7 +3,7 @@ ghost use Rattle.std.specs.Prelude.{◌≡◌, ◌*◌, ◌<◌, ◌≤◌, leng
 ghost use Rattle.std.specs.Mem.{type_size};
 ghost use Rattle.mlu_ring.specs.Sums.{plus_scaled};
 ghost use Rattle.mlu_ring.specs.Lanes.{logical};
-ghost use Rattle.mlu_eq.specs.Split.{contents};
+ghost use Rattle.mlu_eq.specs.Split.{contents, AddsPackedTable, AddsScaled};
 
 use crate::half::{EqMaybePacked, Weights};
 use mlu_kernel::small::{SMALL_BYTES, is_small};
@@ -46,8 +46,7 @@ pub fn accumulate_into_packed<F: Field, EF: ExtensionField<F>>(
 )
     requires packed { IsTrue eq1.now.packed }
     requires size { length out.old * F.Packing.WIDTH ≡ length eq0.now * length eq1.now.weights }
-    ensures { logical EF.ExtensionPacking.ext_lanes out.new
-        ≡ plus_scaled EF.ring (logical EF.ExtensionPacking.ext_lanes out.old) scale (contents EF.ring eq0.now eq1.now.weights) }
+    ensures { AddsScaled EF.ring EF.ExtensionPacking.ext_lanes scale (contents EF.ring eq0.now eq1.now.weights) out.old out.new }
 {
     match eq1.weights() {
         Weights::Packed(weights) => {
@@ -80,9 +79,7 @@ pub(super) fn add_packed_rows<F: Field, EF: ExtensionField<F>>(
     scale: EF,
 )
     requires { length out.old ≡ length eq0.now * length weights.now }
-    ensures { logical EF.ExtensionPacking.ext_lanes out.new
-        ≡ plus_scaled EF.ring (logical EF.ExtensionPacking.ext_lanes out.old) scale
-        (contents EF.ring eq0.now (logical EF.ExtensionPacking.ext_lanes weights.now)) }
+    ensures { AddsPackedTable EF.ring EF.ExtensionPacking.ext_lanes scale eq0.now weights.now out.old out.new }
 {
     for j in 0..eq0.len() {
         let start = j * weights.len();

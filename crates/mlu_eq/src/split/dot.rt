@@ -2,10 +2,9 @@
 ghost use Rattle.std.specs.Prelude.{◌≡◌, ◌*◌, ◌<◌, length, map, slice_index_or, IsTrue};
 ghost use Rattle.mlu_ring.specs.Fours.{in_order};
 ghost use Rattle.mlu_ring.specs.Lanes.{logical};
-ghost use Rattle.mlu_ring.specs.Sums.{sum_of};
 ghost use Rattle.mlu_ring.specs.Tables.{pair};
-ghost use Rattle.mlu_kernel.specs.Kernels.{double_sum};
-ghost use Rattle.mlu_eq.specs.Split.{contents};
+ghost use Rattle.mlu_kernel.specs.Kernels.{double_sum, HasDot};
+ghost use Rattle.mlu_eq.specs.Split.{contents, packed_double_sum};
 
 use crate::half::{EqMaybePacked, Weights};
 use mlu_kernel::one_row::lane_sum;
@@ -121,8 +120,7 @@ fn dot_of_packed_rows<F: Field, EF: ExtensionField<F>>(
     entries: &[EF::ExtensionPacking],
 ) -> EF
     requires { length entries.now ≡ length eq0.now * length weights.now }
-    ensures { result ≡ double_sum EF.ring eq0.now
-        (logical EF.ExtensionPacking.ext_lanes weights.now) (logical EF.ExtensionPacking.ext_lanes entries.now) }
+    ensures { result ≡ packed_double_sum EF.ring EF.ExtensionPacking.ext_lanes eq0.now weights.now entries.now }
 {
     let mut sum = EF::ZERO;
     for j in 0..eq0.len() {
@@ -222,8 +220,7 @@ fn group_dot<F: Field, EF: ExtensionField<F>>(
     entries: &[EF],
 ) -> EF::ExtensionPacking
     requires { length entries.now ≡ length weights.now * F.Packing.WIDTH }
-    ensures { sum_of EF.ring (EF.ExtensionPacking.ext_lanes result)
-        ≡ pair EF.ring (logical EF.ExtensionPacking.ext_lanes weights.now) entries.now }
+    ensures { HasDot EF.ring EF.ExtensionPacking.ext_lanes weights.now entries.now result }
 {
     let mut sum = EF::ExtensionPacking::ZERO;
     for i in 0..weights.len() {

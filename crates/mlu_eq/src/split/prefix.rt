@@ -4,9 +4,8 @@
 //! stack, a group of lanes at a time, and the sums are unpacked once.
 ghost use Rattle.std.specs.Prelude.{◌≡◌, ◌∷◌, [], ◌*◌, ◌/◌, ◌≤◌, ◌<◌, length, map, IsTrue};
 ghost use Rattle.std.specs.Mem.{type_size};
-ghost use Rattle.mlu_ring.specs.Lanes.{logical};
-ghost use Rattle.mlu_kernel.specs.Kernels.{plus_rows};
-ghost use Rattle.mlu_eq.specs.Split.{contents};
+ghost use Rattle.mlu_kernel.specs.Kernels.{plus_rows, AddsRows};
+ghost use Rattle.mlu_eq.specs.Split.{contents, plus_lane_rows, FillPackings};
 
 use super::accumulate::add_lanes;
 use crate::half::{EqMaybePacked, Weights};
@@ -56,8 +55,7 @@ pub fn compress_prefix_into<F: Field, EF: ExtensionField<F>>(
 /// Whether so many places are at most `most` whole packings, which have room on the stack.
 #[inline]
 fn fills_packings<F: Field, EF: ExtensionField<F>>(places: usize, most: usize) -> bool
-    ensures { IsTrue result → (places ≡ places / F.Packing.WIDTH * F.Packing.WIDTH)
-        × (places / F.Packing.WIDTH ≤ most) × (type_size EF.ExtensionPacking.row < SMALL_BYTES) }
+    ensures { IsTrue result → FillPackings F.Packing.WIDTH places most EF.ExtensionPacking.row }
 {
     let width = F::Packing::WIDTH;
     places % width == 0 && places / width <= most && is_small(&EF::ExtensionPacking::ZERO)
@@ -107,9 +105,8 @@ pub fn compress_prefix_to_packed_into<F: Field, EF: ExtensionField<F>>(
     entries: &[F],
 )
     requires { length entries.now ≡ length eq0.now * (length eq1.now.weights * (length out.old * F.Packing.WIDTH)) }
-    ensures { logical EF.ExtensionPacking.ext_lanes out.new
-        ≡ plus_rows EF.ring (logical EF.ExtensionPacking.ext_lanes out.old)
-        (contents EF.ring eq0.now eq1.now.weights) (map EF.embed entries.now) }
+    ensures { AddsRows EF.ring EF.embed EF.ExtensionPacking.ext_lanes
+        (contents EF.ring eq0.now eq1.now.weights) entries.now out.old out.new }
 {
     for j in 0..eq0.len() {
         add_rows_to_packed(eq1, eq0[j], out, row_of(entries, eq0.len(), j));
@@ -142,9 +139,8 @@ fn add_rows_to_packed<F: Field, EF: ExtensionField<F>>(
     rows: &[F],
 )
     requires { length rows.now ≡ length eq1.now.weights * (length out.old * F.Packing.WIDTH) }
-    ensures { logical EF.ExtensionPacking.ext_lanes out.new
-        ≡ plus_rows EF.ring (logical EF.ExtensionPacking.ext_lanes out.old)
-        (map (EF.ring.product factor) eq1.now.weights) (map EF.embed rows.now) }
+    ensures { AddsRows EF.ring EF.embed EF.ExtensionPacking.ext_lanes
+        (map (EF.ring.product factor) eq1.now.weights) rows.now out.old out.new }
 {
     match eq1.weights() {
         Weights::Scalar(weights) => {
@@ -179,8 +175,7 @@ pub(super) fn add_lane_rows<F: Field, EF: ExtensionField<F>>(
     rows: &[F],
 )
     requires { length rows.now ≡ length weights.now * (F.Packing.WIDTH * length out.old) }
-    ensures { out.new ≡ plus_rows EF.ring out.old
-        (map (EF.ring.product factor) (logical EF.ExtensionPacking.ext_lanes weights.now)) (map EF.embed rows.now) }
+    ensures { out.new ≡ plus_lane_rows EF.ring EF.embed EF.ExtensionPacking.ext_lanes out.old factor weights.now rows.now }
 {
     for i in 0..weights.len() {
         let scaled = weights[i].scale(factor);
@@ -210,9 +205,8 @@ fn add_scalar_rows_to_packed<F: Field, EF: ExtensionField<F>>(
     rows: &[F],
 )
     requires { length rows.now ≡ length weights.now * (length out.old * F.Packing.WIDTH) }
-    ensures { logical EF.ExtensionPacking.ext_lanes out.new
-        ≡ plus_rows EF.ring (logical EF.ExtensionPacking.ext_lanes out.old)
-        (map (EF.ring.product factor) weights.now) (map EF.embed rows.now) }
+    ensures { AddsRows EF.ring EF.embed EF.ExtensionPacking.ext_lanes
+        (map (EF.ring.product factor) weights.now) rows.now out.old out.new }
 {
     for i in 0..weights.len() {
         let row = row_of(rows, weights.len(), i);

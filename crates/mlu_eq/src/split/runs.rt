@@ -4,10 +4,10 @@
 //! Nothing is carried from one run to the next: what a run needs of the entry before it is made
 //! again from its index.
 ghost use Rattle.std.specs.Prelude.{◌≡◌, ◌+◌, ◌*◌, ◌<◌, ◌≤◌, ◌∷◌, [], ℕ, List, length, map, refl};
-ghost use Rattle.mlu_ring.specs.Lanes.{IsLaneByLane, logical};
+ghost use Rattle.mlu_ring.specs.Lanes.{IsLaneByLane};
 ghost use Rattle.mlu_ring.specs.Successor.{shifted};
-ghost use Rattle.mlu_kernel.specs.Kernels.{plus_rows};
-ghost use Rattle.mlu_eq.specs.Split.{contents, row_weight, run_of};
+ghost use Rattle.mlu_kernel.specs.Kernels.{plus_rows, AddsRows};
+ghost use Rattle.mlu_eq.specs.Split.{border_weight, contents, moved_run, run_of};
 
 use super::prefix::{add_scalar_row, compress_prefix_into, compress_prefix_to_packed_into};
 use super::shifted::compress_prefix_shifted_into;
@@ -37,8 +37,8 @@ pub trait PrefixCompression<F: Field, EF: ExtensionField<F>, T: PrimeCharacteris
         requires some { 0 < run }
         requires within { start + run ≤ length eq0.now }
         requires size { length rows.now ≡ run * (length eq1.now.weights * (length out.old * width)) }
-        ensures { logical lanes out.new ≡ plus_rows EF.ring (logical lanes out.old)
-            (run_of (length eq1.now.weights) start run (moved (contents EF.ring eq0.now eq1.now.weights))) (map EF.embed rows.now) };
+        ensures { AddsRows EF.ring EF.embed lanes
+            (moved_run EF.ring moved eq0.now eq1.now.weights start run) rows.now out.old out.new };
 
     ghost length_moved: { (w : List EF) → 0 < length w → length (moved w) ≡ length w };
 
@@ -153,8 +153,7 @@ fn add_border<F: Field, EF: ExtensionField<F>>(
 )
     requires within { start < length eq0.now }
     requires row { length out.old ≤ length rows.now }
-    ensures { out.new ≡ plus_rows EF.ring out.old
-        (row_weight EF.ring (length eq1.now.weights) start (shifted EF.ring (contents EF.ring eq0.now eq1.now.weights)) ∷ [])
+    ensures { out.new ≡ plus_rows EF.ring out.old (border_weight EF.ring eq0.now eq1.now.weights start ∷ [])
         (map EF.embed rows.now) }
 {
     if start == 0 {
@@ -188,8 +187,8 @@ pub fn compress_prefix_in_runs<
     requires run { 0 < run_length }
     requires accumulator { length accumulator.old ≡ length out.old }
     requires size { length entries.now ≡ length eq0.now * (length eq1.now.weights * (length out.old * P.width)) }
-    ensures { logical P.lanes out.new
-        ≡ plus_rows EF.ring (logical P.lanes out.old) (P.moved (contents EF.ring eq0.now eq1.now.weights)) (map EF.embed entries.now) }
+    ensures { AddsRows EF.ring EF.embed P.lanes
+        (P.moved (contents EF.ring eq0.now eq1.now.weights)) entries.now out.old out.new }
 {
     eq1.is_not_empty();
     for i in 0..eq0.len().div_ceil(run_length) {

@@ -3,12 +3,12 @@
 //!
 //! Row `j` of the table, with `n` weights, so meets the places from `j * n + 1` on: whole rows go
 //! through the plain kernels, across the borders of the rows. The last row is cut by one place.
-ghost use Rattle.std.specs.Prelude.{◌≡◌, ℕ, ◌<◌, ◌≤◌, ◌+◌, ◌-◌, ◌*◌, length, map, take, slice_index_or};
+ghost use Rattle.std.specs.Prelude.{◌≡◌, ◌<◌, ◌≤◌, ◌+◌, ◌-◌, ◌*◌, length, map, take};
 ghost use Rattle.mlu_ring.specs.Lanes.{logical};
 ghost use Rattle.mlu_ring.specs.Tables.{back, pair};
 ghost use Rattle.mlu_ring.specs.Successor.{shifted};
 ghost use Rattle.mlu_kernel.specs.Kernels.{plus_rows};
-ghost use Rattle.mlu_eq.specs.Split.{contents};
+ghost use Rattle.mlu_eq.specs.Split.{all_but_last, contents, plus_leading_rows, TakesBorders};
 
 use super::dot::{base_dot, dot_base};
 use super::prefix::{add_lane_rows, add_scalar_row, add_scalar_rows, compress_prefix_into};
@@ -94,9 +94,7 @@ fn subtract_borders<F: Additive, EF: Algebra<F>>(
 )
     requires some { 0 < width }
     requires size { length entries.now ≡ (length out.old + 1) * width }
-    ensures { (y : ℕ) → y < length out.old → slice_index_or out.new y EF.ring.zero
-        ≡ EF.ring.minus (slice_index_or out.old y EF.ring.zero)
-        (EF.ring.product weight (slice_index_or (map EF.embed entries.now) ((y + 1) * width) EF.ring.zero)) }
+    ensures { TakesBorders EF.ring weight (map EF.embed entries.now) width out.old out.new }
 {
     for y in 0..out.len() {
         out[y] = out[y] - weight.scale(entries[(y + 1) * width]);
@@ -123,8 +121,8 @@ fn add_leading_rows<F: Field, EF: ExtensionField<F>>(
 )
     requires some { 0 < length out.old }
     requires size { length rows.now + length out.old ≡ length eq1.now.weights * length out.old }
-    ensures { out.new ≡ plus_rows EF.ring out.old
-        (map (EF.ring.product factor) (take (length eq1.now.weights - 1) eq1.now.weights)) (map EF.embed rows.now) }
+    ensures { out.new ≡ plus_rows EF.ring out.old (map (EF.ring.product factor) (all_but_last eq1.now.weights))
+        (map EF.embed rows.now) }
 {
     match eq1.weights() {
         Weights::Scalar(weights) => {
@@ -173,10 +171,8 @@ fn add_leading_lane_rows<F: Field, EF: ExtensionField<F>>(
     requires some { 0 < length weights.now }
     requires places { 0 < length out.old }
     requires size { length rows.now + length out.old ≡ length weights.now * F.Packing.WIDTH * length out.old }
-    ensures { out.new ≡ plus_rows EF.ring out.old
-        (map (EF.ring.product factor)
-        (take (length weights.now * F.Packing.WIDTH - 1) (logical EF.ExtensionPacking.ext_lanes weights.now)))
-        (map EF.embed rows.now) }
+    ensures { out.new ≡ plus_leading_rows EF.ring EF.embed EF.ExtensionPacking.ext_lanes F.Packing.WIDTH
+        out.old factor weights.now rows.now }
 {
     let groups = weights.len() - 1;
     let (whole, rest) = rows.split_at(groups * F::Packing::WIDTH * out.len());

@@ -6,7 +6,7 @@ ghost use Rattle.mlu_ring.specs.Lanes.{logical};
 ghost use Rattle.mlu_ring.specs.Successor.{shifted};
 ghost use Rattle.mlu_ring.specs.Tables.{back, pair};
 ghost use Rattle.mlu_kernel.specs.declared.small.TheConstants.{SMALL_BYTES};
-ghost use Rattle.mlu_eq.specs.Split.{contents};
+ghost use Rattle.mlu_eq.specs.Split.{contents, packed_back};
 
 use super::accumulate::add_packed_rows;
 use super::dot::dot_base;
@@ -152,8 +152,7 @@ fn compress_by_joined<F: Field, EF: ExtensionField<F>, S: SuffixCompression<F, E
     requires few { length eq0.now * length weights.now ≤ MOST_JOINED }
     requires small { type_size EF.ExtensionPacking.row < SMALL_BYTES }
     requires size { length entries.now ≡ length out.old * (length eq0.now * (length weights.now * F.Packing.WIDTH)) }
-    ensures { out.new ≡ back EF.ring (S.moved (contents EF.ring eq0.now (logical EF.ExtensionPacking.ext_lanes weights.now)))
-        (map EF.embed entries.now) }
+    ensures { out.new ≡ packed_back EF.ring EF.ExtensionPacking.ext_lanes S.moved eq0.now weights.now (map EF.embed entries.now) }
 {
     let mut places = [EF::ExtensionPacking::ZERO; MOST_JOINED];
     let joined = &mut places[..eq0.len() * weights.len()];
