@@ -41,7 +41,7 @@ impl<F: Field, EF: ExtensionField<F>> Model for SplitEq<F, EF> {
 }
 
 impl<F: Field, EF: ExtensionField<F>> SplitEq<F, EF> {
-    ghost use Rattle.multilinear_util.specs.Split.{split_entries, HasHalves};
+    ghost use Rattle.multilinear_util.specs.Split.{split_entries, HasHalves, HasImages};
 
     /// The table of the point, times `scale`, with scalars in both halves. Asks that `2^(k - k / 2)` fits
     /// `usize`, where the point has `k` coordinates.
@@ -102,8 +102,7 @@ impl<F: Field, EF: ExtensionField<F>> SplitEq<F, EF> {
         ensures first { IfOk result (λ split. split.eq0 ≡ map R.image self.now.eq0) }
         ensures second { IfOk result (λ split. split.eq1.weights ≡ map R.image self.now.eq1.weights) }
         ensures scalar { IfOk result (λ split. IsTrue split.eq1.packed → ⊥) }
-        ensures images { IsRingMap EF.ring R.ring R.image
-            → IfOk result (λ split. split_entries R.ring split ≡ map R.image (split_entries EF.ring self.now)) }
+        ensures images { IsRingMap EF.ring R.ring R.image → IfOk result (HasImages EF.ring R.ring R.image self.now) }
     {
         let eq0 = Poly::new(half::images(alloc, self.eq0.as_slice())?);
         let eq1 = half::to_field(&self.eq1, alloc)?;

@@ -2,8 +2,7 @@
 //!
 //! Compressing at one point and evaluating at another is evaluating at the two points joined.
 ghost use Rattle.std.specs.Prelude.{◌≡◌, ◌*◌, ◌^◌, ◌≤◌, length, map, IfOk};
-ghost use Rattle.mlu_ring.specs.Lanes.{logical};
-ghost use Rattle.multilinear_util.specs.Compressions.{prefix_compressed, suffix_compressed, IsJoinedAfter, IsJoinedBefore};
+ghost use Rattle.multilinear_util.specs.Compressions.{prefix_compressed, suffix_compressed, Holds, IsJoinedAfter, IsJoinedBefore};
 ghost use Rattle.multilinear_util.specs.Views.{entries};
 
 use super::Poly;
@@ -50,8 +49,8 @@ impl<F: Field> PolyView<'_, F> {
         scale: EF,
     ) -> Result<Poly<EF::ExtensionPacking>, AllocError>
         requires { 2 ^ length point.now * F.Packing.WIDTH ≤ length (entries self.now) }
-        ensures { IfOk result (λ folded. logical EF.ExtensionPacking.ext_lanes folded
-            ≡ prefix_compressed EF.ring scale point.now (map EF.embed (entries self.now))) }
+        ensures { IfOk result (Holds EF.ExtensionPacking.ext_lanes
+            (prefix_compressed EF.ring scale point.now (map EF.embed (entries self.now)))) }
     {
         let split = SplitEq::<F, EF>::new_packed(alloc, point, scale)?;
         let folded = split.compress_prefix_to_packed(alloc, *self)?;
@@ -107,8 +106,8 @@ impl<F: Field> Poly<F> {
         scale: EF,
     ) -> Result<Poly<EF::ExtensionPacking>, AllocError>
         requires { 2 ^ length point.now * F.Packing.WIDTH ≤ length self.now }
-        ensures { IfOk result (λ folded. logical EF.ExtensionPacking.ext_lanes folded
-            ≡ prefix_compressed EF.ring scale point.now (map EF.embed self.now)) }
+        ensures { IfOk result (Holds EF.ExtensionPacking.ext_lanes
+            (prefix_compressed EF.ring scale point.now (map EF.embed self.now))) }
     {
         self.as_view()
             .compress_prefix_to_packed(alloc, point, scale)

@@ -1,7 +1,7 @@
 //! Folds of the first and the last variable.
 ghost use Rattle.std.specs.Prelude.{◌≡◌, ◌<◌, ◌/◌, ◌∷◌, [], length, map, slice_index_or, IfOk, OnErr, nat_lt, if◌then◌else◌};
-ghost use Rattle.mlu_ring.specs.Lanes.{logical};
 ghost use Rattle.mlu_ring.specs.Tables.{front, back, line};
+ghost use Rattle.multilinear_util.specs.Compressions.{Holds};
 ghost use Rattle.multilinear_util.specs.Views.{entries};
 
 use super::Poly;
@@ -69,8 +69,8 @@ impl<F: Field> PolyView<'_, F> {
         r: EF,
     ) -> Result<Poly<EF::ExtensionPacking>, AllocError>
         requires { F.Packing.WIDTH < length (entries self.now) }
-        ensures { IfOk result (λ folded. logical EF.ExtensionPacking.ext_lanes folded
-            ≡ front EF.ring (line EF.ring r) (map EF.embed (entries self.now))) }
+        ensures { IfOk result (Holds EF.ExtensionPacking.ext_lanes
+            (front EF.ring (line EF.ring r) (map EF.embed (entries self.now)))) }
     {
         Ok(Poly::new(fold_prefix_to_packed(alloc, self.as_slice(), r)?))
     }
@@ -186,8 +186,7 @@ impl<F: Field> Poly<F> {
         r: EF,
     ) -> Result<Poly<EF::ExtensionPacking>, AllocError>
         requires { F.Packing.WIDTH < length self.now }
-        ensures { IfOk result (λ folded. logical EF.ExtensionPacking.ext_lanes folded
-            ≡ front EF.ring (line EF.ring r) (map EF.embed self.now)) }
+        ensures { IfOk result (Holds EF.ExtensionPacking.ext_lanes (front EF.ring (line EF.ring r) (map EF.embed self.now))) }
     {
         self.as_view().fix_prefix_var_to_packed(alloc, r)
     }

@@ -13,7 +13,7 @@ use mlu_ring::{
 use std::alloc::{AllocError, Global};
 
 impl<F: Field, EF: ExtensionField<F>> SplitEq<F, EF> {
-    ghost use Rattle.multilinear_util.specs.Split.{split_entries, scale_or_one};
+    ghost use Rattle.multilinear_util.specs.Split.{split_entries, scale_or_one, AddsTable};
 
     /// Adds each entry, times `scale`, to its place of `out`; no scale is a scale of one. Asks for
     /// as many places as there are entries.
@@ -39,9 +39,7 @@ impl<F: Field, EF: ExtensionField<F>> SplitEq<F, EF> {
         scale: Option<EF>,
     ) -> Result<(), AllocError>
         requires { length out.old * F.Packing.WIDTH ≡ length (split_entries EF.ring self.now) }
-        ensures ok { IfOk result (λ _. logical EF.ExtensionPacking.ext_lanes out.new
-            ≡ plus_scaled EF.ring (logical EF.ExtensionPacking.ext_lanes out.old) (scale_or_one EF.ring scale)
-            (split_entries EF.ring self.now)) }
+        ensures ok { IfOk result (λ _. AddsTable EF.ring EF.ExtensionPacking.ext_lanes scale self.now out.old out.new) }
         ensures err { OnErr result (out.new ≡ out.old) }
         ensures packed { IsTrue self.now.eq1.packed → F.Packing.WIDTH * F.Packing.WIDTH ≤ length out.old * F.Packing.WIDTH → IsOk result }
     {
@@ -64,9 +62,7 @@ impl<F: Field, EF: ExtensionField<F>> SplitEq<F, EF> {
         scale: Option<EF>,
     ) -> Result<(), AllocError>
         requires { length out.old * F.Packing.WIDTH ≡ length (split_entries EF.ring self.now) }
-        ensures ok { IfOk result (λ _. logical EF.ExtensionPacking.ext_lanes out.new
-            ≡ plus_scaled EF.ring (logical EF.ExtensionPacking.ext_lanes out.old) (scale_or_one EF.ring scale)
-            (split_entries EF.ring self.now)) }
+        ensures ok { IfOk result (λ _. AddsTable EF.ring EF.ExtensionPacking.ext_lanes scale self.now out.old out.new) }
         ensures err { OnErr result (out.new ≡ out.old) }
     {
         let Some(entries) = out.len().checked_mul(<F::Packing as PackedValue>::WIDTH) else {

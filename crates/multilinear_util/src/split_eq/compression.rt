@@ -1,8 +1,7 @@
 //! Compressions of a polynomial by a split table, whose variables are the first or the last ones.
 ghost use Rattle.std.specs.Prelude.{◌≡◌, ◌*◌, ◌<◌, ◌≤◌, length, map, IfOk};
-ghost use Rattle.mlu_ring.specs.Lanes.{logical};
-ghost use Rattle.mlu_ring.specs.Successor.{shifted};
 ghost use Rattle.mlu_ring.specs.Tables.{front, back};
+ghost use Rattle.multilinear_util.specs.Compressions.{weighted_rows, Holds};
 ghost use Rattle.multilinear_util.specs.Views.{entries};
 
 use super::SplitEq;
@@ -13,7 +12,7 @@ use mlu_ring::{ExtensionField, Field, PackedValue};
 use std::alloc::{AllocError, Global};
 
 impl<F: Field, EF: ExtensionField<F>> SplitEq<F, EF> {
-    ghost use Rattle.multilinear_util.specs.Split.{split_entries};
+    ghost use Rattle.multilinear_util.specs.Split.{shifted_entries, split_entries};
 
     /// The polynomial compressed at its first variables: value `z` is the sum over `y` of entry `y`
     /// times `e[y * s + z]`, where `e` are the polynomial's values and `s` is the number of those that
@@ -62,8 +61,7 @@ impl<F: Field, EF: ExtensionField<F>> SplitEq<F, EF> {
         poly: PolyView<'_, F>,
     ) -> Result<Poly<EF::ExtensionPacking>, AllocError>
         requires { length (split_entries EF.ring self.now) * F.Packing.WIDTH ≤ length (entries poly) }
-        ensures { IfOk result (λ folded. logical EF.ExtensionPacking.ext_lanes folded
-            ≡ front EF.ring (split_entries EF.ring self.now) (map EF.embed (entries poly.entry))) }
+        ensures { IfOk result (Holds EF.ExtensionPacking.ext_lanes (weighted_rows EF.ring EF.embed self.now poly.entry)) }
     {
         self.compress_prefix_to_packed_split(alloc, poly, 1)
     }
@@ -81,8 +79,7 @@ impl<F: Field, EF: ExtensionField<F>> SplitEq<F, EF> {
     ) -> Result<Poly<EF::ExtensionPacking>, AllocError>
         requires packed_parts { 0 < parts }
         requires variables { length (split_entries EF.ring self.now) * F.Packing.WIDTH ≤ length (entries poly) }
-        ensures { IfOk result (λ folded. logical EF.ExtensionPacking.ext_lanes folded
-            ≡ front EF.ring (split_entries EF.ring self.now) (map EF.embed (entries poly.entry))) }
+        ensures { IfOk result (Holds EF.ExtensionPacking.ext_lanes (weighted_rows EF.ring EF.embed self.now poly.entry)) }
     {
         let left = poly.num_variables() - self.num_variables();
         let groups = left - <F::Packing as PackedValue>::LOG_WIDTH;
@@ -130,7 +127,7 @@ impl<F: Field, EF: ExtensionField<F>> SplitEq<F, EF> {
     ) -> Result<Poly<EF>, AllocError>
         requires { length (split_entries EF.ring self.now) ≤ length (entries poly) }
         ensures { IfOk result (λ folded. folded
-            ≡ front EF.ring (shifted EF.ring (split_entries EF.ring self.now)) (map EF.embed (entries poly.entry))) }
+            ≡ front EF.ring (shifted_entries EF.ring self.now) (map EF.embed (entries poly.entry))) }
     {
         self.compress_prefix_shifted_split(alloc, poly, 1)
     }
@@ -149,7 +146,7 @@ impl<F: Field, EF: ExtensionField<F>> SplitEq<F, EF> {
         requires shifted_parts { 0 < parts }
         requires variables { length (split_entries EF.ring self.now) ≤ length (entries poly) }
         ensures { IfOk result (λ folded. folded
-            ≡ front EF.ring (shifted EF.ring (split_entries EF.ring self.now)) (map EF.embed (entries poly.entry))) }
+            ≡ front EF.ring (shifted_entries EF.ring self.now) (map EF.embed (entries poly.entry))) }
     {
         let left = poly.num_variables() - self.num_variables();
         self.compressed::<EF, Shifted>(alloc, poly, left, parts)
@@ -167,7 +164,7 @@ impl<F: Field, EF: ExtensionField<F>> SplitEq<F, EF> {
     ) -> Result<Poly<EF>, AllocError>
         requires { length (split_entries EF.ring self.now) ≤ length (entries poly) }
         ensures { IfOk result (λ folded. folded
-            ≡ back EF.ring (shifted EF.ring (split_entries EF.ring self.now)) (map EF.embed (entries poly.entry))) }
+            ≡ back EF.ring (shifted_entries EF.ring self.now) (map EF.embed (entries poly.entry))) }
     {
         let mut out = Poly::zero(alloc, poly.num_variables() - self.num_variables())?;
         let (eq0, eq1) = self.halves();

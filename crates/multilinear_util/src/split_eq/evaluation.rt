@@ -1,10 +1,9 @@
 //! The sum of the entries of a polynomial, each times its weight in a split table.
 ghost use Rattle.std.specs.Prelude.{◌≡◌, ◌*◌, length, map, IfOk, IsOk, IsTrue};
-ghost use Rattle.mlu_ring.specs.Lanes.{logical};
 ghost use Rattle.mlu_ring.specs.Successor.{next};
 ghost use Rattle.mlu_ring.specs.Tables.{pair};
 ghost use Rattle.mlu_point.specs.Rules.{next_by};
-ghost use Rattle.multilinear_util.specs.Views.{entries};
+ghost use Rattle.multilinear_util.specs.Views.{entries, lanes_of};
 
 use super::SplitEq;
 use crate::poly::PolyView;
@@ -70,7 +69,7 @@ impl<F: Field, EF: ExtensionField<F>> SplitEq<F, EF> {
     ) -> Result<EF, AllocError>
         requires { length (entries poly) * F.Packing.WIDTH ≡ length (split_entries EF.ring self.now) }
         ensures value { IfOk result (λ x. x
-            ≡ pair EF.ring (split_entries EF.ring self.now) (logical EF.ExtensionPacking.ext_lanes (entries poly.entry))) }
+            ≡ pair EF.ring (split_entries EF.ring self.now) (lanes_of EF.ExtensionPacking.ext_lanes poly.entry)) }
         ensures packed { IsTrue self.now.eq1.packed → IsOk result }
     {
         if !self.eq1().is_packed() {

@@ -2,8 +2,8 @@
 //! the compression as a parameter.
 ghost use Rattle.std.specs.Prelude.{◌≡◌, ◌*◌, ◌<◌, ◌^◌, length, map, IfOk};
 ghost use Rattle.std.specs.Int.{div_ceil};
-ghost use Rattle.mlu_ring.specs.Lanes.{logical};
 ghost use Rattle.mlu_ring.specs.Tables.{front};
+ghost use Rattle.multilinear_util.specs.Compressions.{Holds};
 ghost use Rattle.multilinear_util.specs.Views.{entries};
 
 use super::SplitEq;
@@ -38,8 +38,8 @@ impl<F: Field, EF: ExtensionField<F>> SplitEq<F, EF> {
         requires fits { 2 ^ variables < 2 ^ 64 }
         requires some { 0 < length (split_entries EF.ring self.now) }
         requires size { length (entries poly) ≡ length (split_entries EF.ring self.now) * (2 ^ variables * P.width) }
-        ensures { IfOk result (λ folded. logical P.lanes folded
-            ≡ front EF.ring (P.moved (split_entries EF.ring self.now)) (map EF.embed (entries poly.entry))) }
+        ensures { IfOk result (Holds P.lanes
+            (front EF.ring (P.moved (split_entries EF.ring self.now)) (map EF.embed (entries poly.entry)))) }
     {
         let (eq0, _) = self.halves();
         let run = run_length(eq0.len(), parts);
@@ -59,8 +59,8 @@ impl<F: Field, EF: ExtensionField<F>> SplitEq<F, EF> {
         requires fits { 2 ^ variables < 2 ^ 64 }
         requires some { 0 < length (split_entries EF.ring self.now) }
         requires size { length (entries poly) ≡ length (split_entries EF.ring self.now) * (2 ^ variables * P.width) }
-        ensures { IfOk result (λ folded. logical P.lanes folded
-            ≡ front EF.ring (P.moved (split_entries EF.ring self.now)) (map EF.embed (entries poly.entry))) }
+        ensures { IfOk result (Holds P.lanes
+            (front EF.ring (P.moved (split_entries EF.ring self.now)) (map EF.embed (entries poly.entry)))) }
     {
         let mut out = Poly::zero(alloc, variables)?;
         let (eq0, eq1) = self.halves();
@@ -80,8 +80,8 @@ impl<F: Field, EF: ExtensionField<F>> SplitEq<F, EF> {
         requires fits { 2 ^ variables < 2 ^ 64 }
         requires some { 0 < length (split_entries EF.ring self.now) }
         requires size { length (entries poly) ≡ length (split_entries EF.ring self.now) * (2 ^ variables * P.width) }
-        ensures { IfOk result (λ folded. logical P.lanes folded
-            ≡ front EF.ring (P.moved (split_entries EF.ring self.now)) (map EF.embed (entries poly.entry))) }
+        ensures { IfOk result (Holds P.lanes
+            (front EF.ring (P.moved (split_entries EF.ring self.now)) (map EF.embed (entries poly.entry)))) }
     {
         let mut out = Poly::zero(alloc, variables)?;
         let mut accumulator = Poly::zero(alloc, variables)?;
