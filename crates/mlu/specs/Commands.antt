@@ -9,7 +9,7 @@ use Rattle.mlu.specs.Outcomes.{IsOutcome}
 use Rattle.mlu.specs.Words.{line_of, lines_of}
 use Rattle.mlu_ring.specs.Successor.{next}
 use Rattle.mlu_ring.specs.Tables.{value, pair, weights, lsb, line, front, back}
-use Rattle.mlu_sumcheck.specs.Rounds.{rounds_of}
+use Rattle.mlu_sumcheck.specs.Rounds.{rounds_of, product_of_values}
 
 -- what is asked for, with the words of its operands
 pub data Command : Type 0 where
@@ -43,7 +43,7 @@ PrintsFour element x bytes = bytes.items ≡ lines_of (replicate 4 (element x))
 
 -- the last claim of sumcheck: the product of the values at the challenges, of the weights at the point and of the table
 abbrev pub last_claim : List Element → List Element → List Element → Element
-last_claim e p challenges = elements.product (value elements (weights elements p) challenges) (value elements e challenges)
+last_claim e p challenges = product_of_values elements (weights elements p) e challenges
 
 -- the bytes are a line for each round of the table and the point's weights, and one for the last claim
 abbrev pub PrintsProof : List Element × List Element × List Element → Vec ℕ Global → Type 0

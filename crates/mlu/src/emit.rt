@@ -1,6 +1,7 @@
 //! The answer written, and the status that says what was written.
-ghost use Rattle.std.specs.Prelude.{◌≡◌, ◌≢◌, IfOk, IfErr, OnOk};
+ghost use Rattle.std.specs.Prelude.{◌≡◌, IfOk, IfErr, OnOk};
 ghost use Rattle.std.specs.Io.KnownBytes.{Appends};
+ghost use Rattle.mlu.specs.Emit.{Emits};
 ghost use Rattle.mlu.specs.Faults.{fault_text, fault_status};
 
 use crate::fault::Fault;
@@ -13,10 +14,9 @@ const WRITE_FAILED: u8 = 4;
 /// ends with: 0, that of the fault, or 4 where a write or the flush failed. Nothing more is written
 /// then, and never anything to the other writer.
 pub fn emit<O: Write, E: Write>(answer: Result<Vec<u8>, Fault>, out: &mut O, err: &mut E) -> u8
-    ensures line { IfOk answer (λ line. result ≢ 4 → (result ≡ 0) × Appends (O.contents out.old) (O.contents out.new) line.items) }
+    ensures line { IfOk answer (λ line. Emits line.items 0 (O.contents out.old) (O.contents out.new) result) }
     ensures no_text { IfOk answer (λ _. err.new ≡ err.old) }
-    ensures text { IfErr answer (λ fault. result ≢ 4 → (result ≡ fault_status fault)
-        × Appends (E.contents err.old) (E.contents err.new) (fault_text fault)) }
+    ensures text { IfErr answer (λ fault. Emits (fault_text fault) (fault_status fault) (E.contents err.old) (E.contents err.new) result) }
     ensures no_line { IfErr answer (λ _. out.new ≡ out.old) }
 {
     match answer {

@@ -1,7 +1,7 @@
 //! A proof by sumcheck.
 ghost use Rattle.std.specs.Prelude.{◌≡◌, ◌^◌, length, IfOk};
-ghost use Rattle.mlu_ring.specs.Tables.{value, weights};
-ghost use Rattle.mlu_sumcheck.specs.Rounds.{rounds_of};
+ghost use Rattle.mlu_ring.specs.Tables.{weights};
+ghost use Rattle.mlu_sumcheck.specs.Rounds.{rounds_of, product_of_values};
 
 use mlu_ring::{Additive, ExtensionField, Field, SelfAlgebra};
 use mlu_sumcheck::{Transcript, run};
@@ -24,8 +24,7 @@ pub fn proof<F: Field, EF: ExtensionField<F> + SelfAlgebra>(
     requires point { length table.now ≡ 2 ^ length point.now }
     requires challenges { length table.now ≡ 2 ^ length challenges.now }
     ensures rounds { IfOk result (λ both. both.0.items ≡ rounds_of EF.ring (weights EF.ring point.now) table.now challenges.now) }
-    ensures last { IfOk result (λ both. both.1
-        ≡ EF.ring.product (value EF.ring (weights EF.ring point.now) challenges.now) (value EF.ring table.now challenges.now)) }
+    ensures last { IfOk result (λ both. both.1 ≡ product_of_values EF.ring (weights EF.ring point.now) table.now challenges.now) }
 {
     // Its weights are as many as the entries, which a `usize` counts.
     let _entries = table.num_evals();

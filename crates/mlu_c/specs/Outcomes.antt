@@ -3,23 +3,29 @@ use Rattle.std.specs.Prelude.{◌≡◌, ℕ, ⊤, Bool, true, false, Result, Ok
 use Rattle.mlu_c.specs.declared.fault.Fault.{Fault}
 use Rattle.mlu_c.specs.declared.fault.Fault.TheVariants.{Length, Arity, Residue, Memory}
 
--- The first test that operands fail, in this order: each size is one that its operand may have; the sizes
--- fit one another; the words that are read are residues.
-abbrev pub Tested : Type 0 → Type 0 → Type 0 → Result ⊤ Fault → Type 0
-Tested Sized Fits Canonical (Ok done) = Sized × Fits × Canonical
-Tested Sized Fits Canonical (Err Length) = Sized → ⊥
-Tested Sized Fits Canonical (Err Arity) = Sized × (Fits → ⊥)
-Tested Sized Fits Canonical (Err Residue) = Sized × Fits × (Canonical → ⊥)
-Tested Sized Fits Canonical (Err Memory) = ⊥
+-- What a call demands of its operands: that each has a size that it may have, that the sizes fit one
+-- another, and that the words that are read are residues.
+pub record Demands : Type 1 where
+  pub sized : Type 0
+  pub fit : Type 0
+  pub canonical : Type 0
 
--- The answer where the operands pass the tests, and else what is left where they fail the first: want of
--- memory comes where there is no other refusal.
-abbrev pub Outcome : {X : Type 0} → Type 0 → Type 0 → Type 0 → (X → Type 0) → Type 0 → Result X Fault → Type 0
-Outcome Sized Fits Canonical Written Left (Ok x) = Sized × Fits × Canonical × Written x
-Outcome Sized Fits Canonical Written Left (Err Length) = (Sized → ⊥) × Left
-Outcome Sized Fits Canonical Written Left (Err Arity) = Sized × (Fits → ⊥) × Left
-Outcome Sized Fits Canonical Written Left (Err Residue) = Sized × Fits × (Canonical → ⊥) × Left
-Outcome Sized Fits Canonical Written Left (Err Memory) = Sized × Fits × Canonical × Left
+-- the first demand, in this order, that is not met
+abbrev pub Tested : Demands → Result ⊤ Fault → Type 0
+Tested demands (Ok done) = demands.sized × demands.fit × demands.canonical
+Tested demands (Err Length) = demands.sized → ⊥
+Tested demands (Err Arity) = demands.sized × (demands.fit → ⊥)
+Tested demands (Err Residue) = demands.sized × demands.fit × (demands.canonical → ⊥)
+Tested demands (Err Memory) = ⊥
+
+-- The answer where all demands are met, and else what is left where the first is not: want of memory
+-- comes where there is no other refusal.
+abbrev pub Outcome : {X : Type 0} → Demands → (X → Type 0) → Type 0 → Result X Fault → Type 0
+Outcome demands Written Left (Ok x) = demands.sized × demands.fit × demands.canonical × Written x
+Outcome demands Written Left (Err Length) = (demands.sized → ⊥) × Left
+Outcome demands Written Left (Err Arity) = demands.sized × (demands.fit → ⊥) × Left
+Outcome demands Written Left (Err Residue) = demands.sized × demands.fit × (demands.canonical → ⊥) × Left
+Outcome demands Written Left (Err Memory) = demands.sized × demands.fit × demands.canonical × Left
 
 -- the number of a refusal
 abbrev pub fault_status : Fault → ℕ

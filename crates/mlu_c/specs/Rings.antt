@@ -7,6 +7,14 @@ use Rattle.mlu_ext.specs.declared.quartic.QuarticExtension.{QuarticExtension}
 use Rattle.mlu_ext.specs.Quartic.{quartic, quartic_coefficients, quartic_ring, constant}
 use Rattle.mlu_c.specs.Codings.{Coding}
 
+-- the integers modulo 2013265921, at eight lanes
+abbrev pub Base : Type 0
+Base = BabyBear 8
+
+-- the polynomials over them modulo X^4 - 11
+abbrev pub Quartic : Type 0
+Quartic = QuarticExtension Base
+
 -- an integer modulo 2013265921 as its least residue
 abbrev pub residue : (W : ℕ) → Coding (BabyBear W)
 residue W = record {
@@ -24,9 +32,9 @@ coefficients W = record {
 }
 
 -- the ring of the quartic extension
-abbrev pub extension : Ring (QuarticExtension (BabyBear 8))
+abbrev pub extension : Ring Quartic
 extension = quartic_ring (baby_bear_ring 8)
 
 -- the constant polynomial
-abbrev pub embedded : BabyBear 8 → QuarticExtension (BabyBear 8)
+abbrev pub embedded : Base → Quartic
 embedded x = constant (baby_bear_ring 8).zero x

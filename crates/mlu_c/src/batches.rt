@@ -1,11 +1,10 @@
 //! Batches of equality tables.
-ghost use Rattle.std.specs.Prelude.{◌≡◌, ◌/◌, ◌^◌, ◌<◌, IsTrue, length, is_ok, IfOk};
-ghost use Rattle.mlu_ring.specs.Matrices.{AreRows};
-ghost use Rattle.mlu_point.specs.Batches.{after_batch, with_batch};
-ghost use Rattle.mlu_c.specs.Calls.{Batches};
-ghost use Rattle.mlu_c.specs.Codings.{AreResidues, element_count, elements_of};
+ghost use Rattle.std.specs.Prelude.{◌≡◌, length, is_ok, IfOk};
+ghost use Rattle.mlu_point.specs.Batches.{after_batch};
+ghost use Rattle.mlu_c.specs.Calls.{Batches, batch_of};
+ghost use Rattle.mlu_c.specs.Codings.{element_count};
+ghost use Rattle.mlu_c.specs.Operands.{AreEntriesFor, BatchOperands, FitPoints};
 ghost use Rattle.mlu_c.specs.Outcomes.{Tested};
-ghost use Rattle.mlu_c.specs.Sizes.{AreWhole, IsTable};
 
 use crate::fault::Fault;
 use crate::sizes::{are_residues, are_whole, count_of, has_points, is_table};
@@ -21,12 +20,7 @@ fn check_operands<T: Words>(
     scalars: &[u32],
     out: &[u32],
 ) -> Result<(), Fault>
-    ensures { Tested
-        (AreWhole T.coding values.now × AreWhole T.coding scalars.now × IsTable T.coding out.now)
-        (AreRows (element_count T.coding values.now) (element_count T.coding scalars.now)
-        × (0 < element_count T.coding scalars.now → element_count T.coding out.now
-        ≡ 2 ^ (element_count T.coding values.now / element_count T.coding scalars.now)))
-        (AreResidues values.now × AreResidues scalars.now × (IsTrue adds → AreResidues out.now)) result }
+    ensures { Tested (BatchOperands T.coding adds values.now scalars.now out.now) result }
 {
     if !are_whole::<T>(values) || !are_whole::<T>(scalars) || !is_table::<T>(out) {
         return Err(Fault::Length);
@@ -53,7 +47,7 @@ fn eval<F: Field, EF: ExtensionField<F>>(
     scalars: &[EF],
 ) -> Result<(), AllocError>
     requires width { points.width ≡ length scalars.now }
-    requires size { 0 < length scalars.now → length out.old ≡ 2 ^ (length points.values.now / length scalars.now) }
+    requires size { AreEntriesFor (length points.values.now) (length scalars.now) (length out.old) }
     ensures { out.new ≡ after_batch EF.ring (is_ok result) adds out.old points.entry.values.now scalars.now }
 {
     if adds {
@@ -71,12 +65,9 @@ fn table<F: Field, EF: ExtensionField<F> + Words>(
     scalars: &[u32],
     out: &[u32],
 ) -> Result<Vec<EF>, AllocError>
-    requires rows { AreRows (element_count EF.coding values.now) (element_count EF.coding scalars.now) }
-    requires size { 0 < element_count EF.coding scalars.now → element_count EF.coding out.now
-        ≡ 2 ^ (element_count EF.coding values.now / element_count EF.coding scalars.now) }
+    requires { FitPoints EF.coding values.now scalars.now out.now }
     ensures size { IfOk result (λ table. length table.items ≡ element_count EF.coding out.now) }
-    ensures batch { IfOk result (λ table. table.items ≡ with_batch EF.ring adds (elements_of EF.coding out.now)
-        (elements_of EF.coding values.now) (elements_of EF.coding scalars.now)) }
+    ensures batch { IfOk result (λ table. table.items ≡ batch_of EF.coding EF.ring adds values.now scalars.now out.now) }
 {
     let values: Vec<EF> = read(alloc, values)?;
     let scalars: Vec<EF> = read(alloc, scalars)?;

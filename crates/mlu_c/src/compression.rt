@@ -1,10 +1,7 @@
 //! Tables compressed at a point, which stands for their first or their last variables.
-ghost use Rattle.std.specs.Prelude.{◌≡◌, ◌*◌, ◌^◌, map};
-ghost use Rattle.multilinear_util.specs.Compressions.{prefix_compressed, suffix_compressed};
-ghost use Rattle.mlu_c.specs.Calls.{Compresses};
-ghost use Rattle.mlu_c.specs.Codings.{AreResidues, element_count};
+ghost use Rattle.mlu_c.specs.Calls.{Compresses, embedded_prefix, embedded_suffix};
+ghost use Rattle.mlu_c.specs.Operands.{CompressionOperands};
 ghost use Rattle.mlu_c.specs.Outcomes.{Tested};
-ghost use Rattle.mlu_c.specs.Sizes.{AreWhole, IsOne, IsTable};
 
 use crate::fault::Fault;
 use crate::operands::table_and_point;
@@ -20,10 +17,7 @@ fn check_operands<A: Words, B: Words>(
     scale: &[u32],
     out: &[u32],
 ) -> Result<(), Fault>
-    ensures { Tested
-        (IsTable A.coding table.now × AreWhole B.coding point.now × IsOne B.coding scale.now × IsTable B.coding out.now)
-        (element_count A.coding table.now ≡ 2 ^ element_count B.coding point.now * element_count B.coding out.now)
-        (AreResidues table.now × AreResidues point.now × AreResidues scale.now) result }
+    ensures { Tested (CompressionOperands A.coding B.coding table.now point.now scale.now out.now) result }
 {
     if !is_table::<A>(table)
         || !are_whole::<B>(point)
@@ -53,8 +47,7 @@ pub fn compress_prefix<F: Field + Words, EF: ExtensionField<F> + Words>(
     scale: &[u32],
     out: &mut [u32],
 ) -> Result<(), Fault>
-    ensures { Compresses F.coding EF.coding (λ e p s. prefix_compressed EF.ring s p (map EF.embed e))
-        table.now point.now scale.now out.old out.new result }
+    ensures { Compresses F.coding EF.coding (embedded_prefix EF.ring EF.embed) table.now point.now scale.now out.old out.new result }
 {
     check_operands::<F, EF>(table, point, scale, out)?;
     let (table, point) = table_and_point::<F, EF>(alloc, table, point)?;
@@ -71,8 +64,7 @@ pub fn compress_suffix<F: Field + Words, EF: ExtensionField<F> + Words>(
     scale: &[u32],
     out: &mut [u32],
 ) -> Result<(), Fault>
-    ensures { Compresses F.coding EF.coding (λ e p s. suffix_compressed EF.ring s p (map EF.embed e))
-        table.now point.now scale.now out.old out.new result }
+    ensures { Compresses F.coding EF.coding (embedded_suffix EF.ring EF.embed) table.now point.now scale.now out.old out.new result }
 {
     check_operands::<F, EF>(table, point, scale, out)?;
     let (table, point) = table_and_point::<F, EF>(alloc, table, point)?;

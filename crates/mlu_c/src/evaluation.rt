@@ -1,11 +1,8 @@
 //! Values of tables at points.
-ghost use Rattle.std.specs.Prelude.{◌≡◌, ◌^◌, map};
-ghost use Rattle.mlu_ring.specs.Tables.{pair, value, weights};
-ghost use Rattle.mlu_ring.specs.Successor.{next};
-ghost use Rattle.mlu_c.specs.Calls.{Evaluates};
-ghost use Rattle.mlu_c.specs.Codings.{AreResidues, element_count};
+ghost use Rattle.mlu_ring.specs.Tables.{value};
+ghost use Rattle.mlu_c.specs.Calls.{Evaluates, embedded_next_value, embedded_value};
+ghost use Rattle.mlu_c.specs.Operands.{EvaluationOperands};
 ghost use Rattle.mlu_c.specs.Outcomes.{Tested};
-ghost use Rattle.mlu_c.specs.Sizes.{AreWhole, IsOne, IsTable};
 
 use crate::fault::Fault;
 use crate::operands::table_and_point;
@@ -20,10 +17,7 @@ fn check_operands<A: Words, B: Words>(
     point: &[u32],
     out: &[u32],
 ) -> Result<(), Fault>
-    ensures { Tested
-        (IsTable A.coding table.now × AreWhole B.coding point.now × IsOne B.coding out.now)
-        (element_count A.coding table.now ≡ 2 ^ element_count B.coding point.now)
-        (AreResidues table.now × AreResidues point.now) result }
+    ensures { Tested (EvaluationOperands A.coding B.coding table.now point.now out.now) result }
 {
     if !is_table::<A>(table) || !are_whole::<B>(point) || !is_one::<B>(out) {
         return Err(Fault::Length);
@@ -44,7 +38,7 @@ pub fn eval_base<F: Field + Words, EF: ExtensionField<F> + Words>(
     point: &[u32],
     out: &mut [u32],
 ) -> Result<(), Fault>
-    ensures { Evaluates F.coding EF.coding (λ e p. value EF.ring (map EF.embed e) p) table.now point.now out.old out.new result }
+    ensures { Evaluates F.coding EF.coding (embedded_value EF.ring EF.embed) table.now point.now out.old out.new result }
 {
     check_operands::<F, EF>(table, point, out)?;
     let (table, point) = table_and_point::<F, EF>(alloc, table, point)?;
@@ -61,8 +55,7 @@ pub fn eval_next_base<F: Field + Words, EF: ExtensionField<F> + Words>(
     point: &[u32],
     out: &mut [u32],
 ) -> Result<(), Fault>
-    ensures { Evaluates F.coding EF.coding (λ e p. pair EF.ring (next EF.ring (weights EF.ring p)) (map EF.embed e))
-        table.now point.now out.old out.new result }
+    ensures { Evaluates F.coding EF.coding (embedded_next_value EF.ring EF.embed) table.now point.now out.old out.new result }
 {
     check_operands::<F, EF>(table, point, out)?;
     let (table, point) = table_and_point::<F, EF>(alloc, table, point)?;
@@ -78,7 +71,7 @@ pub fn eval_ext<F: Field, EF: ExtensionField<F> + Words>(
     point: &[u32],
     out: &mut [u32],
 ) -> Result<(), Fault>
-    ensures { Evaluates EF.coding EF.coding (λ e p. value EF.ring e p) table.now point.now out.old out.new result }
+    ensures { Evaluates EF.coding EF.coding (value EF.ring) table.now point.now out.old out.new result }
 {
     check_operands::<EF, EF>(table, point, out)?;
     let (table, point) = table_and_point::<EF, EF>(alloc, table, point)?;

@@ -1,10 +1,7 @@
 //! Folds of the first and of the last variable, in place.
-ghost use Rattle.std.specs.Prelude.{◌<◌};
-ghost use Rattle.mlu_ring.specs.Tables.{front, back, line};
-ghost use Rattle.mlu_c.specs.Calls.{Folds};
-ghost use Rattle.mlu_c.specs.Codings.{AreResidues, element_count};
+ghost use Rattle.mlu_c.specs.Calls.{Folds, first_folded, last_folded};
+ghost use Rattle.mlu_c.specs.Operands.{FoldOperands};
 ghost use Rattle.mlu_c.specs.Outcomes.{Tested};
-ghost use Rattle.mlu_c.specs.Sizes.{IsOne, IsTable};
 
 use crate::fault::Fault;
 use crate::operands::table;
@@ -15,10 +12,7 @@ use std::alloc::Global;
 
 /// Tests a table that has a variable, and an element.
 fn check_operands<T: Words>(table: &[u32], r: &[u32]) -> Result<(), Fault>
-    ensures { Tested
-        (IsTable T.coding table.now × IsOne T.coding r.now)
-        (1 < element_count T.coding table.now)
-        (AreResidues table.now × AreResidues r.now) result }
+    ensures { Tested (FoldOperands T.coding table.now r.now) result }
 {
     if !is_table::<T>(table) || !is_one::<T>(r) {
         return Err(Fault::Length);
@@ -38,7 +32,7 @@ pub fn fix_prefix_var_mut<R: SelfAlgebra + Words>(
     words: &mut [u32],
     r: &[u32],
 ) -> Result<(), Fault>
-    ensures { Folds R.coding (λ r e. front R.ring (line R.ring r) e) r.now words.old words.new result }
+    ensures { Folds R.coding (first_folded R.ring) r.now words.old words.new result }
 {
     check_operands::<R>(words, r)?;
     let mut table = table::<R>(alloc, words)?;
@@ -54,7 +48,7 @@ pub fn fix_suffix_var_mut<R: SelfAlgebra + Words>(
     words: &mut [u32],
     r: &[u32],
 ) -> Result<(), Fault>
-    ensures { Folds R.coding (λ r e. back R.ring (line R.ring r) e) r.now words.old words.new result }
+    ensures { Folds R.coding (last_folded R.ring) r.now words.old words.new result }
 {
     check_operands::<R>(words, r)?;
     let mut table = table::<R>(alloc, words)?;

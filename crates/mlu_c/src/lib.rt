@@ -11,13 +11,10 @@
 //! Sizes and statuses of each call stand in `bindings/c/mlu.h`.
 #![tactic(auto)]
 
-ghost use Rattle.std.specs.Prelude.{map};
-ghost use Rattle.mlu_ring.specs.Successor.{next};
-ghost use Rattle.mlu_ring.specs.Tables.{back, front, line, lsb, pair, value, weights};
-ghost use Rattle.multilinear_util.specs.Compressions.{prefix_compressed, suffix_compressed};
-ghost use Rattle.mlu_c.specs.Calls.{Batches, Compresses, Evaluates, Folds, Proves, Tabulates, Verifies};
+ghost use Rattle.mlu_ring.specs.Tables.{value};
+ghost use Rattle.mlu_c.specs.Calls.{embedded_next_value, embedded_prefix, embedded_suffix, embedded_value, first_folded, last_folded, scaled_weights};
+ghost use Rattle.mlu_c.specs.Exports.{BatchesExtension, CompressesBase, EvaluatesBase, EvaluatesExtension, FoldsExtension, ProvesExtension, TabulatesExtension, VerifiesExtension};
 ghost use Rattle.mlu_c.specs.Outcomes.{Answers, Judges};
-ghost use Rattle.mlu_c.specs.Rings.{residue, coefficients, extension, embedded};
 
 mod batches;
 mod compression;
@@ -43,9 +40,7 @@ type Extension = QuarticExtension<Element>;
 /// The value of a table over the base field at a point of the extension.
 #[unsafe(no_mangle)]
 pub extern "C" fn mlu_eval_base(alloc: Global, table: &[u32], point: &[u32], out: &mut [u32]) -> u32
-    ensures { Answers
-        (Evaluates (residue 8) (coefficients 8) (λ e p. value extension (map embedded e) p)
-        table.now point.now out.old out.new) result }
+    ensures { Answers (EvaluatesBase embedded_value table.now point.now out.old out.new) result }
 {
     status(evaluation::eval_base::<Element, Extension>(alloc, table, point, out))
 }
@@ -53,7 +48,7 @@ pub extern "C" fn mlu_eval_base(alloc: Global, table: &[u32], point: &[u32], out
 /// The value of a table over the extension at a point.
 #[unsafe(no_mangle)]
 pub extern "C" fn mlu_eval_ext(alloc: Global, table: &[u32], point: &[u32], out: &mut [u32]) -> u32
-    ensures { Answers (Evaluates (coefficients 8) (coefficients 8) (value extension) table.now point.now out.old out.new) result }
+    ensures { Answers (EvaluatesExtension value table.now point.now out.old out.new) result }
 {
     status(evaluation::eval_ext::<Element, Extension>(alloc, table, point, out))
 }
@@ -67,9 +62,7 @@ pub extern "C" fn mlu_eval_next_base(
     point: &[u32],
     out: &mut [u32],
 ) -> u32
-    ensures { Answers
-        (Evaluates (residue 8) (coefficients 8) (λ e p. pair extension (next extension (weights extension p)) (map embedded e))
-        table.now point.now out.old out.new) result }
+    ensures { Answers (EvaluatesBase embedded_next_value table.now point.now out.old out.new) result }
 {
     status(evaluation::eval_next_base::<Element, Extension>(alloc, table, point, out))
 }
@@ -83,9 +76,7 @@ pub extern "C" fn mlu_equality_weights_msb(
     scale: &[u32],
     out: &mut [u32],
 ) -> u32
-    ensures { Answers
-        (Tabulates (coefficients 8) (λ p s. map (extension.product s) (weights extension p))
-        point.now scale.now out.old out.new) result }
+    ensures { Answers (TabulatesExtension (scaled_weights BitOrder.Msb) point.now scale.now out.old out.new) result }
 {
     status(tables::equality_weights::<Extension>(alloc, BitOrder::Msb, point, scale, out))
 }
@@ -99,9 +90,7 @@ pub extern "C" fn mlu_equality_weights_lsb(
     scale: &[u32],
     out: &mut [u32],
 ) -> u32
-    ensures { Answers
-        (Tabulates (coefficients 8) (λ p s. map (extension.product s) (lsb extension p))
-        point.now scale.now out.old out.new) result }
+    ensures { Answers (TabulatesExtension (scaled_weights BitOrder.Lsb) point.now scale.now out.old out.new) result }
 {
     status(tables::equality_weights::<Extension>(alloc, BitOrder::Lsb, point, scale, out))
 }
@@ -116,7 +105,7 @@ pub extern "C" fn mlu_eval_eq_batch(
     scalars: &[u32],
     out: &mut [u32],
 ) -> u32
-    ensures { Answers (Batches (coefficients 8) extension adds values.now scalars.now out.old out.new) result }
+    ensures { Answers (BatchesExtension adds values.now scalars.now out.old out.new) result }
 {
     status(batches::eval_eq_batch::<Element, Extension>(alloc, adds, values, scalars, out))
 }
@@ -124,7 +113,7 @@ pub extern "C" fn mlu_eval_eq_batch(
 /// A table over the extension with its first variable at `r`, in the first half of its words.
 #[unsafe(no_mangle)]
 pub extern "C" fn mlu_fix_prefix_var_mut(alloc: Global, table: &mut [u32], r: &[u32]) -> u32
-    ensures { Answers (Folds (coefficients 8) (λ x e. front extension (line extension x) e) r.now table.old table.new) result }
+    ensures { Answers (FoldsExtension first_folded r.now table.old table.new) result }
 {
     status(folds::fix_prefix_var_mut::<Extension>(alloc, table, r))
 }
@@ -132,7 +121,7 @@ pub extern "C" fn mlu_fix_prefix_var_mut(alloc: Global, table: &mut [u32], r: &[
 /// A table over the extension with its last variable at `r`, in the first half of its words.
 #[unsafe(no_mangle)]
 pub extern "C" fn mlu_fix_suffix_var_mut(alloc: Global, table: &mut [u32], r: &[u32]) -> u32
-    ensures { Answers (Folds (coefficients 8) (λ x e. back extension (line extension x) e) r.now table.old table.new) result }
+    ensures { Answers (FoldsExtension last_folded r.now table.old table.new) result }
 {
     status(folds::fix_suffix_var_mut::<Extension>(alloc, table, r))
 }
@@ -146,9 +135,7 @@ pub extern "C" fn mlu_compress_prefix(
     scale: &[u32],
     out: &mut [u32],
 ) -> u32
-    ensures { Answers
-        (Compresses (residue 8) (coefficients 8) (λ e p s. prefix_compressed extension s p (map embedded e))
-        table.now point.now scale.now out.old out.new) result }
+    ensures { Answers (CompressesBase embedded_prefix table.now point.now scale.now out.old out.new) result }
 {
     status(compression::compress_prefix::<Element, Extension>(alloc, table, point, scale, out))
 }
@@ -162,9 +149,7 @@ pub extern "C" fn mlu_compress_suffix(
     scale: &[u32],
     out: &mut [u32],
 ) -> u32
-    ensures { Answers
-        (Compresses (residue 8) (coefficients 8) (λ e p s. suffix_compressed extension s p (map embedded e))
-        table.now point.now scale.now out.old out.new) result }
+    ensures { Answers (CompressesBase embedded_suffix table.now point.now scale.now out.old out.new) result }
 {
     status(compression::compress_suffix::<Element, Extension>(alloc, table, point, scale, out))
 }
@@ -180,9 +165,7 @@ pub extern "C" fn mlu_sumcheck_run(
     rounds: &mut [u32],
     claims: &mut [u32],
 ) -> u32
-    ensures { Answers
-        (Proves (coefficients 8) extension table.now point.now challenges.now
-        rounds.old claims.old rounds.new claims.new) result }
+    ensures { Answers (ProvesExtension table.now point.now challenges.now rounds.old claims.old rounds.new claims.new) result }
 {
     status(sumcheck::sumcheck_run::<Element, Extension>(
         alloc, table, point, challenges, rounds, claims,
@@ -199,7 +182,7 @@ pub extern "C" fn mlu_sumcheck_verify(
     challenges: &[u32],
     out: &mut [u32],
 ) -> u32
-    ensures { Judges (Verifies (coefficients 8) extension claim.now rounds.now challenges.now out.old out.new) result }
+    ensures { Judges (VerifiesExtension claim.now rounds.now challenges.now out.old out.new) result }
 {
     verdict(sumcheck::sumcheck_verify::<Extension>(alloc, claim, rounds, challenges, out))
 }

@@ -1,7 +1,7 @@
 //! Tests of operands: their sizes, and whether their words are residues.
-ghost use Rattle.std.specs.Prelude.{◌≡◌, ◌↔◌, ◌*◌, ◌/◌, ◌<◌, ◌^◌, IsTrue};
-ghost use Rattle.mlu_ring.specs.Matrices.{AreRows};
+ghost use Rattle.std.specs.Prelude.{◌≡◌, ◌↔◌, ◌*◌, ◌^◌, IsTrue};
 ghost use Rattle.mlu_c.specs.Codings.{AreResidues, element_count};
+ghost use Rattle.mlu_c.specs.Operands.{ArePoints};
 ghost use Rattle.mlu_c.specs.Sizes.{AreWhole, IsOne, IsTable};
 
 use crate::words::Words;
@@ -55,7 +55,7 @@ pub fn has_rows(entries: usize, variables: usize, width: usize) -> bool
 /// Whether `values` is a whole number of coordinates for each of the points, and `entries` a table
 /// with as many variables; with no points there are no values, and any entries do.
 pub fn has_points(values: usize, points: usize, entries: usize) -> bool
-    ensures { IsTrue result ↔ AreRows values points × (0 < points → entries ≡ 2 ^ (values / points)) }
+    ensures { IsTrue result ↔ ArePoints values points entries }
 {
     if points == 0 {
         return values == 0;

@@ -1,12 +1,12 @@
 //! Sumcheck: the whole proof, and its test.
-ghost use Rattle.std.specs.Prelude.{◌≡◌, ◌+◌, ◌*◌, ◌/◌, ◌^◌, ◌<◌, ◌↔◌, flat_map, length, IsTrue, IfOk, MatchOption};
+ghost use Rattle.std.specs.Prelude.{◌≡◌, ◌+◌, ◌*◌, ◌/◌, ◌^◌, ◌<◌, ◌↔◌, flat_map, length, IsTrue, IfOk};
 ghost use Rattle.std.specs.Mem.{type_size};
 ghost use Rattle.mlu_ring.specs.Tables.{weights};
-ghost use Rattle.mlu_sumcheck.specs.Rounds.{rounds_of, FitFromTo};
-ghost use Rattle.mlu_c.specs.Calls.{AreClaims, Proves, Verifies, triples};
-ghost use Rattle.mlu_c.specs.Codings.{AreResidues, element_count, elements_of};
+ghost use Rattle.mlu_sumcheck.specs.Rounds.{IsLastClaim};
+ghost use Rattle.mlu_c.specs.Calls.{AreClaims, Proves, Verifies, round_elements, triples};
+ghost use Rattle.mlu_c.specs.Codings.{element_count, elements_of};
+ghost use Rattle.mlu_c.specs.Operands.{ProofOperands, VerifierOperands};
 ghost use Rattle.mlu_c.specs.Outcomes.{Tested};
-ghost use Rattle.mlu_c.specs.Sizes.{AreWhole, IsOne, IsTable};
 
 use crate::fault::Fault;
 use crate::operands::table_and_point;
@@ -34,14 +34,7 @@ fn check_run<T: Words>(
     rounds: &[u32],
     claims: &[u32],
 ) -> Result<(), Fault>
-    ensures { Tested
-        (IsTable T.coding table.now × AreWhole T.coding point.now × AreWhole T.coding challenges.now
-        × AreWhole T.coding rounds.now × AreWhole T.coding claims.now)
-        ((element_count T.coding table.now ≡ 2 ^ element_count T.coding point.now)
-        × (element_count T.coding challenges.now ≡ element_count T.coding point.now)
-        × (element_count T.coding rounds.now ≡ element_count T.coding point.now * 3)
-        × (element_count T.coding claims.now ≡ element_count T.coding point.now + 1))
-        (AreResidues table.now × AreResidues point.now × AreResidues challenges.now) result }
+    ensures { Tested (ProofOperands T.coding table.now point.now challenges.now rounds.now claims.now) result }
 {
     let are_points = are_whole::<T>(point) && are_whole::<T>(challenges);
     if !is_table::<T>(table) || !are_points || !are_whole::<T>(rounds) || !are_whole::<T>(claims) {
@@ -113,8 +106,7 @@ fn prove<F: Field, EF: ExtensionField<F> + SelfAlgebra>(
     requires round_fits { 3 * type_size EF.row < 2 ^ 63 }
     requires point { length table.now ≡ 2 ^ length point.now }
     requires challenges { length table.now ≡ 2 ^ length challenges.now }
-    ensures rounds { IfOk result (λ proof. proof.rounds.items
-        ≡ flat_map (λ round. round) (rounds_of EF.ring (weights EF.ring point.now) table.now challenges.now)) }
+    ensures rounds { IfOk result (λ proof. proof.rounds.items ≡ round_elements EF.ring (weights EF.ring point.now) table.now challenges.now) }
     ensures claims { IfOk result (λ proof. AreClaims EF.ring (weights EF.ring point.now) table.now challenges.now proof.claims.items) }
     ensures round_elements { IfOk result (λ proof. length proof.rounds.items ≡ length challenges.now * 3) }
     ensures claim_elements { IfOk result (λ proof. length proof.claims.items ≡ length challenges.now + 1) }
@@ -158,10 +150,7 @@ fn check_verify<T: Words>(
     challenges: &[u32],
     out: &[u32],
 ) -> Result<(), Fault>
-    ensures { Tested
-        (IsOne T.coding claim.now × AreWhole T.coding rounds.now × AreWhole T.coding challenges.now × IsOne T.coding out.now)
-        (element_count T.coding rounds.now ≡ element_count T.coding challenges.now * 3)
-        (AreResidues claim.now × AreResidues rounds.now × AreResidues challenges.now) result }
+    ensures { Tested (VerifierOperands T.coding claim.now rounds.now challenges.now out.now) result }
 {
     if !is_one::<T>(claim)
         || !are_whole::<T>(rounds)
@@ -189,9 +178,7 @@ fn last_claim<R: PrimeCharacteristicRing + Words>(
 ) -> Result<Option<R>, AllocError>
     requires round_fits { 3 * type_size R.row < 2 ^ 63 }
     requires sizes { element_count R.coding rounds.now ≡ element_count R.coding challenges.now * 3 }
-    ensures { IfOk result (λ last. MatchOption last
-        ((x : R) → FitFromTo R.ring claim x (triples (elements_of R.coding rounds.now)) (elements_of R.coding challenges.now) → ⊥)
-        (λ x. FitFromTo R.ring claim x (triples (elements_of R.coding rounds.now)) (elements_of R.coding challenges.now))) }
+    ensures { IfOk result (IsLastClaim R.ring claim (triples (elements_of R.coding rounds.now)) (elements_of R.coding challenges.now)) }
 {
     let elements: Vec<R> = read(alloc, rounds)?;
     let rounds = in_rounds(alloc, elements.as_slice())?;

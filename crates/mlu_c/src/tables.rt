@@ -1,10 +1,10 @@
 //! Equality tables in both orders.
-ghost use Rattle.std.specs.Prelude.{◌≡◌, ◌^◌, length, map, IfOk};
-ghost use Rattle.mlu_point.specs.Orders.{weights_by};
-ghost use Rattle.mlu_c.specs.Calls.{Tabulates};
-ghost use Rattle.mlu_c.specs.Codings.{AreResidues, element_count, elements_of};
+ghost use Rattle.std.specs.Prelude.{◌≡◌, ◌^◌, length, IfOk};
+ghost use Rattle.mlu_c.specs.Calls.{Tabulates, scaled_weights};
+ghost use Rattle.mlu_c.specs.Codings.{element_count, elements_of};
+ghost use Rattle.mlu_c.specs.Operands.{WeightsOperands};
 ghost use Rattle.mlu_c.specs.Outcomes.{Tested};
-ghost use Rattle.mlu_c.specs.Sizes.{AreWhole, IsOne, IsTable};
+ghost use Rattle.mlu_c.specs.Sizes.{IsOne};
 
 use crate::fault::Fault;
 use crate::sizes::{are_residues, are_whole, count_of, has_variables, is_one, is_table};
@@ -15,10 +15,7 @@ use std::alloc::{AllocError, Global};
 
 /// Tests a point, a scale and the room for a table.
 fn check_operands<T: Words>(point: &[u32], scale: &[u32], out: &[u32]) -> Result<(), Fault>
-    ensures { Tested
-        (AreWhole T.coding point.now × IsOne T.coding scale.now × IsTable T.coding out.now)
-        (element_count T.coding out.now ≡ 2 ^ element_count T.coding point.now)
-        (AreResidues point.now × AreResidues scale.now) result }
+    ensures { Tested (WeightsOperands T.coding point.now scale.now out.now) result }
 {
     if !are_whole::<T>(point) || !is_one::<T>(scale) || !is_table::<T>(out) {
         return Err(Fault::Length);
@@ -43,9 +40,8 @@ fn table<R: PrimeCharacteristicRing + Words>(
 ) -> Result<Vec<R>, AllocError>
     requires one { IsOne R.coding scale.now }
     requires count { count ≡ 2 ^ element_count R.coding point.now }
-    ensures size { IfOk result (λ table. length table.items ≡ count) }
-    ensures weights { IfOk result (λ table. table.items
-        ≡ map (R.ring.product (R.coding.element scale.now)) (weights_by order R.ring (elements_of R.coding point.now))) }
+    ensures size { IfOk result (λ t. length t.items ≡ count) }
+    ensures weights { IfOk result (λ t. t.items ≡ scaled_weights order R.ring (elements_of R.coding point.now) (R.coding.element scale.now)) }
 {
     let point: Vec<R> = read(alloc, point)?;
     let mut table = R::zero_vec(alloc, count)?;
@@ -66,7 +62,7 @@ pub fn equality_weights<R: PrimeCharacteristicRing + Words>(
     scale: &[u32],
     out: &mut [u32],
 ) -> Result<(), Fault>
-    ensures { Tabulates R.coding (λ p s. map (R.ring.product s) (weights_by order R.ring p)) point.now scale.now out.old out.new result }
+    ensures { Tabulates R.coding (scaled_weights order R.ring) point.now scale.now out.old out.new result }
 {
     check_operands::<R>(point, scale, out)?;
     let table = table::<R>(alloc, order, point, scale, count_of::<R>(out))?;

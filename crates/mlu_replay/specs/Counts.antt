@@ -4,6 +4,7 @@ use Rattle.mlu_replay_calls.specs.Faults.{reason_text}
 use Rattle.mlu_replay_calls.specs.Words.{first_word}
 use Rattle.mlu_replay_calls.specs.declared.fault.Reason.{Reason}
 use Rattle.mlu_replay_calls.specs.declared.fault.Reason.TheVariants.{Text, Equals}
+use Rattle.mlu_replay.specs.declared.replay.Case.{Case}
 use Rattle.mlu_replay.specs.declared.replay.Tally.{Tally}
 use Rattle.mlu_replay.specs.declared.stop.Stop.{Stop}
 use Rattle.mlu_replay.specs.declared.stop.Stop.TheVariants.{Read, Memory, Write}
@@ -34,9 +35,21 @@ differ_line number op given answer =
 abbrev pub unknown_line : ℕ → List ℕ → List ℕ
 unknown_line number reason = codes "line " ++ (decimal number ++ (codes ": unknown: " ++ (reason ++ codes "\n")))
 
+-- the line for this case, where it differs
+abbrev pub case_line : ℕ → Case → List ℕ → List ℕ
+case_line number case answer = differ_line number (first_word case.asked.now) case.given.now answer
+
 -- the lines that are no case, or one whose answers differ
 abbrev pub disagreeing : Tally → ℕ
 disagreeing tally = tally.differ + tally.unknown
+
+-- one case more differs
+abbrev pub MoreDiffer : Tally → Tally → Type 0
+MoreDiffer old new = new.differ ≢ old.differ
+
+-- one line more is no case
+abbrev pub MoreUnknown : Tally → Tally → Type 0
+MoreUnknown old new = new.unknown ≢ old.unknown
 
 -- the line is written for a case whose given answer, which ends it, is not the library's
 abbrev pub TellsDiffering : ℕ → List ℕ → Option (List ℕ) → Option (List ℕ) → Type 0
@@ -52,9 +65,9 @@ abbrev pub IsNoCase : List ℕ → Reason → Type 0
 IsNoCase line reason = ((reason ≡ Text) × (IsUtf8 line → ⊥)) ⊎ ((reason ≡ Equals) × FindsText (codes " = ") line None)
 
 -- the last line
-abbrev pub count_line : ℕ → ℕ → ℕ → List ℕ
-count_line compared differ unknown =
-    decimal compared ++ (codes " compared, " ++ (decimal differ ++ (codes " differ, " ++ (decimal unknown ++ codes " unknown\n"))))
+abbrev pub count_line : Tally → List ℕ
+count_line tally =
+    decimal tally.compared ++ (codes " compared, " ++ (decimal tally.differ ++ (codes " differ, " ++ (decimal tally.unknown ++ codes " unknown\n"))))
 
 -- the status that the program ends with where it stops before the end
 abbrev pub stop_status : Stop → ℕ

@@ -3,7 +3,7 @@ ghost use Rattle.std.specs.Prelude.{◌≡◌, ◌≢◌, ◌+◌, ◌<◌, ◌�
 ghost use Rattle.std.specs.Io.KnownBytes.{Appends, IsAtEnd};
 ghost use Rattle.std.specs.IoError.{error_kind};
 ghost use Rattle.std.specs.Io.BufRead.{DropsThrough, first_piece};
-ghost use Rattle.mlu_replay.specs.Counts.{Grows, GrowsTo, IsNoCase, TellsDiffering, TellsUnknown, count_line, differ_line, disagreeing, line_count, unknown_line};
+ghost use Rattle.mlu_replay.specs.Counts.{Grows, GrowsTo, IsNoCase, MoreDiffer, MoreUnknown, TellsDiffering, TellsUnknown, case_line, count_line, disagreeing, line_count, unknown_line};
 ghost use Rattle.mlu_replay_calls.specs.Faults.{reason_text};
 ghost use Rattle.mlu_replay_calls.specs.Words.{first_word};
 
@@ -47,8 +47,7 @@ pub fn replay<R: BufRead, W: Write>(
 ) -> Result<Tally, Stop>
     ensures lines { IfOk result (λ tally. IfSome (R.remaining input.old) (λ bytes. tally.compared + tally.unknown ≡ line_count bytes)) }
     ensures within { IfOk result (λ tally. tally.differ ≤ tally.compared) }
-    ensures last { IfOk result (λ tally. GrowsTo (W.contents out.old) (W.contents out.new)
-        (count_line tally.compared tally.differ tally.unknown)) }
+    ensures last { IfOk result (λ tally. GrowsTo (W.contents out.old) (W.contents out.new) (count_line tally)) }
 {
     let mut tally = Tally::default();
     let mut line = Vec::new(alloc);
@@ -135,9 +134,8 @@ fn replay_line<W: Write>(
     ensures one { IfOk result (λ _. tally.new.compared + tally.new.unknown ≡ tally.old.compared + tally.old.unknown + 1) }
     ensures within { IfOk result (λ _. tally.new.differ ≤ tally.new.compared) }
     ensures same { OnOk result (disagreeing tally.new ≡ disagreeing tally.old → Appends (W.contents out.old) (W.contents out.new) []) }
-    ensures differs { OnOk result (tally.new.differ ≢ tally.old.differ →
-        TellsDiffering number line.now (W.contents out.old) (W.contents out.new)) }
-    ensures unknown { OnOk result (tally.new.unknown ≢ tally.old.unknown → TellsUnknown number (W.contents out.old) (W.contents out.new)) }
+    ensures differs { OnOk result (MoreDiffer tally.old tally.new → TellsDiffering number line.now (W.contents out.old) (W.contents out.new)) }
+    ensures unknown { OnOk result (MoreUnknown tally.old tally.new → TellsUnknown number (W.contents out.old) (W.contents out.new)) }
     ensures grows { OnOk result (Grows (W.contents out.old) (W.contents out.new)) }
     ensures stop { IfErr result (λ stop. stop ≢ Stop.Read) }
 {
@@ -166,8 +164,7 @@ fn report_differing<W: Write>(
     answer: &str,
     out: &mut W,
 ) -> Result<(), Stop>
-    ensures line { OnOk result (Appends (W.contents out.old) (W.contents out.new)
-        (differ_line number (first_word case.entry.asked.now) case.entry.given.now answer.now)) }
+    ensures line { OnOk result (Appends (W.contents out.old) (W.contents out.new) (case_line number case.entry answer.now)) }
     ensures stop { IfErr result (λ stop. stop ≡ Stop.Write) }
 {
     let (op, given) = (case.op(), case.given);
@@ -198,7 +195,7 @@ fn answered(alloc: Global, line: &[u8]) -> Result<(Case<'_>, String), Fault>
 
 /// Writes the last line, and sees that no line is held back.
 fn write_count<W: Write>(tally: Tally, out: &mut W) -> Result<(), Stop>
-    ensures last { OnOk result (Appends (W.contents out.old) (W.contents out.new) (count_line tally.compared tally.differ tally.unknown)) }
+    ensures last { OnOk result (Appends (W.contents out.old) (W.contents out.new) (count_line tally)) }
     ensures stop { IfErr result (λ stop. stop ≡ Stop.Write) }
 {
     let Tally {

@@ -1,5 +1,5 @@
 -- The words that stand for elements, and for lists of them.
-use Rattle.std.specs.Prelude.{◌≡◌, ℕ, List, [], ◌∷◌, ◌++◌, ◌==◌, codes, decimal, ⊤, MatchOption, MatchResult}
+use Rattle.std.specs.Prelude.{◌≡◌, ℕ, List, [], ◌∷◌, ◌++◌, ◌==◌, codes, decimal, length, ⊤, MatchOption, MatchResult}
 use Rattle.std.specs.List.{join_with_byte, slice_split}
 use Rattle.std.specs.declared.option.Option.{Option}
 use Rattle.std.specs.declared.result.Result.{Result}
@@ -44,6 +44,10 @@ module _ {W : ℕ} where
   -- the residues, with colons between
   abbrev pub AreCoefficients : List ℕ → List (BabyBear W) → Type 0
   AreCoefficients word xs = EachStands IsResidue (slice_split (λ byte. byte == 58) word) xs
+
+  -- so many residues with colons between, and none exactly where they are not so many or one is none
+  abbrev pub ReadsCoefficients : ℕ → List ℕ → Option (List (BabyBear W)) → Type 0
+  ReadsCoefficients count word result = MatchOption result ((xs : List (BabyBear W)) → length xs ≡ count → AreCoefficients word xs → ⊥) (λ xs. AreCoefficients word xs)
 
   -- the image of a residue
   abbrev pub IsImage : {E : Type 0} → (BabyBear W → E) → List ℕ → E → Type 0

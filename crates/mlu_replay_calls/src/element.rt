@@ -1,11 +1,11 @@
 //! Elements as words: read from them, and written as them.
-ghost use Rattle.std.specs.Prelude.{◌≡◌, ◌⊎◌, ◌++◌, ◌<◌, ℕ, List, length, decimal, string_bytes, IfOk, MatchOption};
+ghost use Rattle.std.specs.Prelude.{◌≡◌, ◌⊎◌, ◌++◌, ◌<◌, ℕ, List, decimal, string_bytes, IfOk, MatchOption};
 ghost use Rattle.mlu_lanes.specs.BabyBear.{canonical};
 ghost use Rattle.mlu_lanes.specs.WrappingU64.{number};
 ghost use Rattle.mlu_lanes.specs.BabyBear.{baby_bear_ring};
 ghost use Rattle.mlu_ext.specs.Product.{diagonal, entries_of};
 ghost use Rattle.mlu_ext.specs.Quartic.{constant, quartic_coefficients};
-ghost use Rattle.mlu_replay_calls.specs.Elements.{AreCoefficients, IsImage, IsWrittenBetween};
+ghost use Rattle.mlu_replay_calls.specs.Elements.{AreCoefficients, IsImage, IsWrittenBetween, ReadsCoefficients};
 
 use crate::decimals::decimal;
 use mlu_ext::{ProductAlgebra, QuarticExtension};
@@ -101,8 +101,7 @@ impl<const W: usize, const D: usize> Element for ProductAlgebra<BabyBear<W>, D> 
 
 /// The residues between colons, and `None` exactly where they are not so many or one is none.
 fn read_coefficients<const W: usize, const D: usize>(word: &str) -> Option<[BabyBear<W>; D]>
-    ensures { MatchOption result ((xs : List (BabyBear W)) → length xs ≡ D →
-        AreCoefficients word.now xs → ⊥) (λ xs. AreCoefficients word.now xs) }
+    ensures { ReadsCoefficients D word.now result }
 {
     let mut coefficients = [BabyBear::ZERO; D];
     let mut count = 0;

@@ -5,7 +5,7 @@ use Rattle.std.proofs.lemmas.Bool.{cases_Bool, false≢true}
 use Rattle.mlu_ring.specs.Ring.{Ring, RingLaws}
 use Rattle.mlu_ring.specs.Tables.{pair, front, line, univariate, value}
 use Rattle.mlu_ring.proofs.Univariate.{length-front}
-use Rattle.mlu_sumcheck.specs.Rounds.{round, Fit, IsCaughtAt}
+use Rattle.mlu_sumcheck.specs.Rounds.{round, BeginWithSum, EndWithProduct, Fit, IsCaughtAt}
 use Rattle.mlu_sumcheck.proofs.Rounds.{round-adds_up, univariate-round}
 use Rattle.mlu_sumcheck.proofs.Folded.{doubled, power_halved, value-front, pair-folded}
 use Rattle.mlu_sumcheck.proofs.Chains.{fit-rest}
@@ -24,13 +24,13 @@ module _ {R : Type 0} (ring : Ring R) (laws : RingLaws ring) (decide : (a b : R)
 
   -- the first claim is the pair of the tables, or a round is caught
   abbrev pub TrueOrCaught : List R → List R → List R → List (List R) → List R → Type 0
-  TrueOrCaught claims w e rounds challenges = (get_or claims 0 𝟘 ≡ pair ring w e) ⊎ ((i : ℕ) × IsCaughtAt ring w e rounds challenges i)
+  TrueOrCaught claims w e rounds challenges = BeginWithSum ring claims w e ⊎ ((i : ℕ) × IsCaughtAt ring w e rounds challenges i)
 
   later : (r : R) (rs : List R) (g : List R) (gs : List (List R)) (w e : List R) (i : ℕ) → IsCaughtAt ring (front ring (line ring r) w) (front ring (line ring r) e) gs rs i → IsCaughtAt ring w e (g ∷ gs) (r ∷ rs) (suc i)
   later r rs g gs w e i caught = let below = caught.within in record { within = omega (arith, below); other = caught.other; same = caught.same }
 
   pub true_or_caught : (challenges : List R) (rounds : List (List R)) (claims w e : List R) → length w ≡ 2 ^ length challenges → length e ≡ 2 ^ length challenges → length rounds ≡ length challenges → Fit ring claims rounds challenges
-      → get_or claims (length challenges) 𝟘 ≡ value ring w challenges ⊗ value ring e challenges → TrueOrCaught claims w e rounds challenges
+      → EndWithProduct ring claims w e challenges → TrueOrCaught claims w e rounds challenges
   true_or_caught [] rounds claims w e size_w size_e many fit last = inl (last ∙ sym (pair-folded ring laws [] w e size_w size_e))
   true_or_caught (r ∷ rs) [] claims w e size_w size_e many fit last = absurd (omega (arith, many))
   true_or_caught (r ∷ rs) (g ∷ gs) [] w e size_w size_e many fit last = let count = fit.count in absurd (omega (arith, count))

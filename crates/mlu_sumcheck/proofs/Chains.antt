@@ -2,10 +2,10 @@
 use Rattle.std.proofs.Common.{◌≡◌, ℕ, zero, suc, ◌+◌, ◌-◌, ◌^◌, ◌<◌, ◌≤◌, List, [], ◌∷◌, ◌++◌, length, take, drop, get_or, refl, sym, ap, ◌∙◌, arith, subst, zero-add}
 use Rattle.std.proofs.lemmas.List.{drop_more, drop_all, get_or_default, take_all}
 use Rattle.mlu_ring.specs.Ring.{Ring, RingLaws}
-use Rattle.mlu_ring.specs.Tables.{pair, front, line, univariate, value}
+use Rattle.mlu_ring.specs.Tables.{pair, front, line, univariate}
 use Rattle.mlu_ring.proofs.Doubling.{map_range-add}
 use Rattle.mlu_ring.proofs.Tabulated.{tabulate, length-tabulate, get_or-tabulate}
-use Rattle.mlu_sumcheck.specs.Rounds.{folded, round_at, AddsUpTo, Fit, FitFromTo}
+use Rattle.mlu_sumcheck.specs.Rounds.{folded, round_at, AddsUpTo, BeginWithSum, EndWithProduct, Fit, FitFromTo}
 use Rattle.mlu_sumcheck.proofs.Rounds.{round-adds_up, univariate-round}
 use Rattle.mlu_sumcheck.proofs.Folded.{folded-take_more, halves-folded_at, pair-folded}
 
@@ -111,8 +111,7 @@ module _ {R : Type 0} (ring : Ring R) where
       (subst (λ rs. FitFromTo ring s s [] rs) (sym (drop_all i challenges past_challenges)) (chain-none s)))
 
 module _ {R : Type 0} (ring : Ring R) (laws : RingLaws ring) where
-  infixl 60 ◌⊗◌
-  open ring use {product as ◌⊗◌, zero as 𝟘}
+  open ring use {zero as 𝟘}
 
   module _ (w e challenges : List R) (size_w : length w ≡ 2 ^ length challenges) (size_e : length e ≡ 2 ^ length challenges) where
     pub round_at-adds_up : (i : ℕ) → i < length challenges → AddsUpTo ring (claim_at ring w e challenges i) (round_at ring w e challenges i)
@@ -161,10 +160,10 @@ module _ {R : Type 0} (ring : Ring R) (laws : RingLaws ring) where
         next = transcript-next;
       }
 
-      pub transcript-first : get_or claims 0 𝟘 ≡ pair ring w e
+      pub transcript-first : BeginWithSum ring claims w e
       transcript-first = transcript-claim 0 (omega arith)
 
-      pub transcript-last : get_or claims (length challenges) 𝟘 ≡ value ring w challenges ⊗ value ring e challenges
+      pub transcript-last : EndWithProduct ring claims w e challenges
       transcript-last =
           transcript-claim (length challenges) (omega arith)
           ∙ ap (λ rs. pair ring (folded ring rs w) (folded ring rs e)) (take_all (length challenges) challenges (omega arith))

@@ -10,7 +10,7 @@ use Rattle.mlu_ring.proofs.Joined.{value-joined_prefix}
 use Rattle.mlu_ring.proofs.Totals.{pair-nil, pair-cons}
 use Rattle.mlu_ring.proofs.Univariate.{length-front}
 use Rattle.mlu_ring.proofs.Rings.{sum_zero}
-use Rattle.mlu_sumcheck.specs.Rounds.{folded}
+use Rattle.mlu_sumcheck.specs.Rounds.{folded, product_of_values}
 
 pub doubled : (n k : ℕ) → n ≡ 2 ^ suc k → n ≡ 2 ^ k + 2 ^ k
 doubled n k e = omega (arith, e)
@@ -82,7 +82,7 @@ module _ {R : Type 0} (ring : Ring R) (laws : RingLaws ring) where
   pair-one (x ∷ []) (y ∷ z ∷ more) p q = absurd (omega arith)
 
   -- so the pair of two tables is the product of their values
-  pub pair-folded : (rs w e : List R) → length w ≡ 2 ^ length rs → length e ≡ 2 ^ length rs → pair ring (folded ring rs w) (folded ring rs e) ≡ value ring w rs ⊗ value ring e rs
+  pub pair-folded : (rs w e : List R) → length w ≡ 2 ^ length rs → length e ≡ 2 ^ length rs → pair ring (folded ring rs w) (folded ring rs e) ≡ product_of_values ring w e rs
   pair-folded rs w e size_w size_e =
       let none : length rs ≡ length rs + 0 = omega arith in
       pair-one (folded ring rs w) (folded ring rs e) (length-folded ring rs w 0 (size_w ∙ ap (λ k. 2 ^ k) none)) (length-folded ring rs e 0 (size_e ∙ ap (λ k. 2 ^ k) none))

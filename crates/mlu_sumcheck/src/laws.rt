@@ -3,8 +3,8 @@
 //! The function does nothing: what it says stands in its contract, which speaks of the definitions
 //! alone.
 ghost use Rattle.std.specs.Prelude.{◌≡◌, ◌^◌, ◌⊎◌, length, ℕ};
-ghost use Rattle.mlu_ring.specs.Tables.{pair, value};
-ghost use Rattle.mlu_sumcheck.specs.Rounds.{FitFromTo, IsCaughtAt};
+ghost use Rattle.mlu_ring.specs.Tables.{pair};
+ghost use Rattle.mlu_sumcheck.specs.Rounds.{product_of_values, FitFromTo, IsCaughtAt};
 
 use mlu_ring::PrimeCharacteristicRing;
 
@@ -25,8 +25,7 @@ pub fn caught<EF: PrimeCharacteristicRing>(
     requires weights_size { length weights.now ≡ 2 ^ length challenges.now }
     requires number { length rounds.now ≡ length challenges.now }
     requires fit { FitFromTo EF.ring first last rounds.now challenges.now }
-    requires values { last
-        ≡ EF.ring.product (value EF.ring weights.now challenges.now) (value EF.ring poly.now challenges.now) }
+    requires values { last ≡ product_of_values EF.ring weights.now poly.now challenges.now }
     ensures { (first ≡ pair EF.ring weights.now poly.now)
         ⊎ ((i : ℕ) × IsCaughtAt EF.ring weights.now poly.now rounds.now challenges.now i) }
 {}

@@ -1,9 +1,9 @@
 //! The prover: rounds of two tables, and the tables folded at the challenges.
 ghost use Rattle.std.specs.Prelude.{◌≡◌, ◌+◌, ◌/◌, ◌^◌, ◌<◌, ◌∷◌, [], length, slice_index_or, suc, IfOk};
 ghost use Rattle.std.specs.Vec.{vec_capacity};
-ghost use Rattle.mlu_ring.specs.Tables.{front, line, pair, value};
+ghost use Rattle.mlu_ring.specs.Tables.{front, line, pair};
 ghost use Rattle.multilinear_util.specs.Split.{split_entries};
-ghost use Rattle.mlu_sumcheck.specs.Rounds.{lower, step, round, rounds_of, AddsUpTo, Fit};
+ghost use Rattle.mlu_sumcheck.specs.Rounds.{lower, step, round, rounds_of, AddsUpTo, BeginWithSum, EndWithProduct, Fit};
 
 use crate::verifier::value_at;
 use mlu_ring::{Additive, ExtensionField, Field, PrimeCharacteristicRing, SelfAlgebra};
@@ -138,12 +138,10 @@ pub fn run<F: Field, EF: ExtensionField<F> + SelfAlgebra>(
     ensures number_of_claims { IfOk result (λ t. length t.claims.items ≡ suc (length challenges.now)) }
     ensures exact_rounds { IfOk result (λ t. vec_capacity t.rounds ≡ length challenges.now) }
     ensures exact_claims { IfOk result (λ t. vec_capacity t.claims ≡ suc (length challenges.now)) }
-    ensures first { IfOk result (λ t. slice_index_or t.claims.items 0 EF.ring.zero
-        ≡ pair EF.ring (split_entries EF.ring weights.now) poly.now) }
+    ensures first { IfOk result (λ t. BeginWithSum EF.ring t.claims.items (split_entries EF.ring weights.now) poly.now) }
     ensures rounds { IfOk result (λ t. t.rounds.items ≡ rounds_of EF.ring (split_entries EF.ring weights.now) poly.now challenges.now) }
     ensures fit { IfOk result (λ t. Fit EF.ring t.claims.items t.rounds.items challenges.now) }
-    ensures last { IfOk result (λ t. slice_index_or t.claims.items (length challenges.now) EF.ring.zero
-        ≡ EF.ring.product (value EF.ring (split_entries EF.ring weights.now) challenges.now) (value EF.ring poly.now challenges.now)) }
+    ensures last { IfOk result (λ t. EndWithProduct EF.ring t.claims.items (split_entries EF.ring weights.now) poly.now challenges.now) }
 {
     let variables = poly.num_variables();
     let first = weights.eval_ext(poly.as_view());

@@ -1,7 +1,7 @@
 //! The verifier: claims tested round by round.
-ghost use Rattle.std.specs.Prelude.{◌≡◌, ◌∷◌, [], length, MatchOption};
+ghost use Rattle.std.specs.Prelude.{◌≡◌, ◌∷◌, [], length};
 ghost use Rattle.mlu_ring.specs.Tables.{univariate};
-ghost use Rattle.mlu_sumcheck.specs.Rounds.{AddsUpTo, FitFromTo};
+ghost use Rattle.mlu_sumcheck.specs.Rounds.{IsLastClaim, IsNextClaim};
 
 use mlu_ring::{Additive, PrimeCharacteristicRing};
 
@@ -16,8 +16,7 @@ pub(crate) fn value_at<R: PrimeCharacteristicRing>(constant: R, linear: R, quadr
 /// The next claim, which is the round's value at the challenge `r`; `None` exactly where the round's
 /// values at 0 and 1 do not add up to the claim. Takes no memory.
 pub fn verify_round<EF: PrimeCharacteristicRing>(claim: EF, round: [EF; 3], r: EF) -> Option<EF>
-    ensures { MatchOption result (AddsUpTo EF.ring claim round → ⊥)
-        (λ next. AddsUpTo EF.ring claim round × (next ≡ univariate EF.ring round r)) }
+    ensures { IsNextClaim EF.ring claim round r result }
 {
     let [constant, linear, quadratic] = round;
     if constant.double() + linear + quadratic != claim {
@@ -36,8 +35,7 @@ pub fn verify<EF: PrimeCharacteristicRing>(
     challenges: &[EF],
 ) -> Option<EF>
     requires { length rounds.now ≡ length challenges.now }
-    ensures { MatchOption result ((last : EF) → FitFromTo EF.ring claim last rounds.now challenges.now → ⊥)
-        (λ last. FitFromTo EF.ring claim last rounds.now challenges.now) }
+    ensures { IsLastClaim EF.ring claim rounds.now challenges.now result }
 {
     for i in 0..rounds.len() {
         let next = verify_round(claim, rounds[i], challenges[i])?;

@@ -3,8 +3,8 @@ use Rattle.std.proofs.Math.Path.{fun_ext}
 use Rattle.std.proofs.lemmas.List.{map-id, get_or_default}
 use Rattle.multilinear_util.proofs.Splits.{half_fits}
 use Rattle.mlu_ring.specs.Ring.{Ring, RingLaws}
-use Rattle.mlu_ring.specs.Tables.{value, weights}
-use Rattle.mlu_sumcheck.specs.Rounds.{rounds_of}
+use Rattle.mlu_ring.specs.Tables.{weights}
+use Rattle.mlu_sumcheck.specs.Rounds.{rounds_of, product_of_values}
 use Rattle.mlu.proofs.proof.proof.Goals as goal
 
 -- a table at scale one
@@ -32,4 +32,4 @@ returns-clause-last g c =
     let whole = at_one ring g.met.EF.Additive.laws c.ONE.result (weights ring c.args.point.now) _ (c.ONE.ensures ∙ g.met.EF.Additive.one_is) c.in_ok-split.ensures.value in
     let within : length c.args.challenges.now < length c.in_ok-rounds.field-0.claims.items = omega (arith, c.in_ok-rounds.ensures.number_of_claims) in
     c.index-last.ensures ∙ get_or_default c.in_ok-rounds.field-0.claims.items (length c.args.challenges.now) _ ring.zero within
-    ∙ c.in_ok-rounds.ensures.last ∙ ap (λ w. ring.product (value ring w c.args.challenges.now) (value ring c.args.table.now c.args.challenges.now)) whole
+    ∙ c.in_ok-rounds.ensures.last ∙ ap (λ w. product_of_values ring w c.args.table.now c.args.challenges.now) whole
