@@ -1,23 +1,11 @@
-use Rattle.std.proofs.Common.{◌≡◌, ◌*◌, ◌/◌, ◌≤◌, length, refl, sym, subst, ap, ◌∙◌, rules}
-use Rattle.std.proofs.Math.Nat.{mul-div_cancel}
+use Rattle.std.proofs.Common.{length, refl, ap, ◌∙◌, rules}
 use Rattle.mlu_ring.proofs.Rows.{rows_of-multiple}
 use Rattle.mlu_point.proofs.Sizes.{places-of_rows}
 use Rattle.mlu_sweep_calls.proofs.batches.compare_base.Goals as goal
 
 pub new-evals-requires : goal.new-evals-requires
-new-evals-requires g c = rows_of-multiple _ c.args.batch.variables (length c.args.scalars.now) c.requires.rows
+new-evals-requires g c = rows_of-multiple _ c.args.batch.variables (length c.args.batch.scalars.now) c.requires.rows
 
 pub eval_eq_base_batch-requires-clause-size : goal.eval_eq_base_batch-requires-clause-size
 eval_eq_base_batch-requires-clause-size g c =
-    places-of_rows _ _ _ c.args.batch.variables (length c.args.scalars.now) (ap length c.new-evals.ensures.values ∙ c.requires.rows) refl (search rules)
-
-pub eval_eq_base_batch_in_chunks-requires-clause-size : goal.eval_eq_base_batch_in_chunks-requires-clause-size
-eval_eq_base_batch_in_chunks-requires-clause-size g c =
-    places-of_rows _ _ _ c.args.batch.variables (length c.args.scalars.now) (ap length c.new-evals-2.ensures.values ∙ c.requires.rows) refl (search rules)
-
-pub eval_eq_base_batch_in_chunks-requires-clause-chunks : goal.eval_eq_base_batch_in_chunks-requires-clause-chunks
-eval_eq_base_batch_in_chunks-requires-clause-chunks g c =
-    λ some.
-    let points = length c.args.scalars.now in
-    let rows : length c.new-evals-2.result.values.now ≡ c.args.batch.variables * points = ap length c.new-evals-2.ensures.values ∙ c.requires.rows in
-    subst (λ k. c.args.batch.log_chunks ≤ k) (sym (ap (λ k. k / points) rows ∙ mul-div_cancel c.args.batch.variables some)) c.requires.chunks
+    places-of_rows _ _ _ c.args.batch.variables (length c.args.batch.scalars.now) (ap length c.new-evals.ensures.values ∙ c.requires.rows) refl (search rules)
