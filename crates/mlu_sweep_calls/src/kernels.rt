@@ -43,14 +43,7 @@ pub fn compare<F: Field + Sample, EF: ExtensionField<F> + Sample>(
         dots::<F, EF>(alloc, report, rng, rows)?;
         prefixes::<F, EF>(alloc, report, rng, rows)?;
     }
-    dot_of_no_weights::<F, EF>(report);
     Ok(())
-}
-
-/// Compares the dot of two rows without entries.
-fn dot_of_no_weights<F: Field, EF: ExtensionField<F>>(report: &mut Report) {
-    let sum = compress_hi_dot_packed::<F, EF>(&[], &[], &[EF::ZERO, EF::ZERO]);
-    report.value("compress_hi_dot_packed of no weights", sum, EF::ZERO);
 }
 
 /// Compares the dots of so many rows.

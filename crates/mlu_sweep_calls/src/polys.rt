@@ -73,76 +73,31 @@ pub fn evaluate_lanes<F: Field, EF: ExtensionField<F>>(
     Ok(())
 }
 
-/// Compares the polynomial in either storage, in lanes where there are values for one packing.
-pub fn store<F: Field, EF: ExtensionField<F>>(
+/// Compares the value of a polynomial in either storage, in lanes where there are values for one
+/// packing.
+pub fn evaluate_storages<F: Field, EF: ExtensionField<F>>(
     alloc: Global,
     report: &mut Report,
     point: &Point<EF>,
     ext: &Poly<EF>,
 ) -> Result<(), AllocError> {
-    report.form = " (scalars)";
-    let scalars: PolyMaybePacked<F, EF> = PolyMaybePacked::Scalar(ext.try_clone(alloc)?);
-    evaluate_storage(alloc, report, point, ext, &scalars)?;
-    unpack(alloc, report, ext, scalars)?;
-    if ext.num_evals() >= F::Packing::WIDTH {
-        report.form = " (lanes)";
-        let lanes: PolyMaybePacked<F, EF> = PolyMaybePacked::Packed(ext.pack::<F, EF>(alloc)?);
-        evaluate_storage(alloc, report, point, ext, &lanes)?;
-        unpack(alloc, report, ext, lanes)?;
-    }
-    report.form = "";
-    Ok(())
-}
-
-/// Compares the value of the polynomial as it is stored.
-fn evaluate_storage<F: Field, EF: ExtensionField<F>>(
-    alloc: Global,
-    report: &mut Report,
-    point: &Point<EF>,
-    ext: &Poly<EF>,
-    storage: &PolyMaybePacked<F, EF>,
-) -> Result<(), AllocError> {
+    let weights = table(alloc, point.as_slice(), EF::ONE)?;
+    let defined = plain::dot(&weights, ext.as_slice());
+    let mut storage: PolyMaybePacked<F, EF> = PolyMaybePacked::Scalar(ext.try_clone(alloc)?);
     if storage.num_variables() != point.num_variables() {
         return Err(AllocError);
     }
-    let weights = table(alloc, point.as_slice(), EF::ONE)?;
     let value = storage.eval(alloc, point)?;
-    report.value(
-        "PolyMaybePacked::eval",
-        value,
-        plain::dot(&weights, ext.as_slice()),
-    );
-    Ok(())
-}
-
-/// Compares the values that the storage, a view of it and a copy of it are unpacked into.
-fn unpack<F: Field, EF: ExtensionField<F>>(
-    alloc: Global,
-    report: &mut Report,
-    ext: &Poly<EF>,
-    storage: PolyMaybePacked<F, EF>,
-) -> Result<(), AllocError> {
-    let view = storage.as_view().as_view();
-    let same_size = view.num_variables() == ext.num_variables();
-    report.agrees("PolyMaybePackedView::num_variables", same_size);
-    if storage.num_scalar_evals() != ext.num_evals() || view.num_scalar_evals() != ext.num_evals() {
+    report.value("PolyMaybePacked::eval", value, defined);
+    if ext.num_evals() < F::Packing::WIDTH {
+        return Ok(());
+    }
+    storage = PolyMaybePacked::Packed(ext.pack::<F, EF>(alloc)?);
+    if storage.num_variables() != point.num_variables() {
         return Err(AllocError);
     }
-    let mut out = EF::zero_vec(alloc, ext.num_evals())?;
-    storage.unpack_into(&mut out);
-    report.values("PolyMaybePacked::unpack_into", &out, ext.as_slice());
-    out.reverse();
-    view.unpack_into(&mut out);
-    report.values("PolyMaybePackedView::unpack_into", &out, ext.as_slice());
-    let unpacked = match storage.try_clone(alloc)?.unpack(alloc) {
-        Ok(unpacked) => unpacked,
-        Err((_, refused)) => return Err(refused),
-    };
-    report.values(
-        "PolyMaybePacked::unpack",
-        unpacked.as_slice(),
-        ext.as_slice(),
-    );
+    let value = storage.eval(alloc, point)?;
+    report.value("PolyMaybePacked::eval of lanes", value, defined);
     Ok(())
 }
 

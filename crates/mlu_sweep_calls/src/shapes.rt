@@ -90,7 +90,7 @@ fn at_a_point<F: Field, EF: ExtensionField<F> + Sample>(
     if base.num_variables() == coordinates {
         polys::evaluate(alloc, report, &point, (base, ext))?;
         polys::evaluate_lanes::<F, EF>(alloc, report, &point, ext)?;
-        polys::store::<F, EF>(alloc, report, &point, ext)?;
+        polys::evaluate_storages::<F, EF>(alloc, report, &point, ext)?;
     }
     Ok(())
 }

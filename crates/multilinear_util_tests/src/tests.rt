@@ -4,4 +4,5 @@ mod examples;
 mod polys;
 mod rings;
 mod splits;
+mod storages;
 mod texts;

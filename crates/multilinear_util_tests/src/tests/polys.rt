@@ -74,7 +74,6 @@ pub fn is_viewed<R: Additive>(alloc: Global) -> Result<bool, AllocError> {
 fn owned_and_viewed(rt: HostRuntime) -> Result<(), Fail> {
     assert!(rt; residues::<4>(rt.alloc(), Row::Owned)?);
     assert!(rt; residues::<4>(rt.alloc(), Row::Views)?);
-    assert!(rt; residues::<4>(rt.alloc(), Row::Constant)?);
     Ok(())
 }
 

@@ -1,6 +1,9 @@
 //! The rings that the rows are tried at. Only the functions here name them: each function that does
 //! pays for every implementation that the rings stand on, and a call of these pays for none.
-use super::{polys, splits, texts};
+ghost use Rattle.std.specs.Prelude.{◌≤◌};
+
+use super::{polys, splits, storages, texts};
+use mlu_ext::QuarticExtension;
 use mlu_lanes::{BabyBear, LaneWidth, Lanes, WrappingU64};
 use mlu_ring::{ExtensionField, Sample};
 use std::alloc::{AllocError, Global};
@@ -8,11 +11,11 @@ use std::fmt::Debug;
 
 /// What is tried over a field that is its own extension.
 pub enum Row {
-    Constant,
     Draws,
     Halves,
     Owned,
     Parts,
+    Storages,
     Successors,
     Texts,
     TheFunction,
@@ -23,13 +26,14 @@ pub enum Row {
 fn holds<R: ExtensionField<R> + Sample + Debug>(alloc: Global, row: Row) -> Result<bool, AllocError>
 where
     R::ExtensionPacking: Debug,
+    requires { R.Packing.WIDTH ≤ 16 }
 {
     match row {
-        Row::Constant => polys::is_constant::<R>(alloc),
         Row::Draws => polys::draws_two::<R>(alloc),
         Row::Halves => splits::has_halves::<R>(alloc),
         Row::Owned => polys::owns::<R>(alloc),
         Row::Parts => splits::leaves_in_parts::<R>(alloc),
+        Row::Storages => storages::both::<R, R>(alloc),
         Row::Successors => splits::meets_successors::<R>(alloc),
         Row::Texts => texts::prints::<R>(alloc),
         Row::TheFunction => splits::is_the_function::<R>(alloc),
@@ -41,8 +45,30 @@ where
 pub fn residues<const W: usize>(alloc: Global, row: Row) -> Result<bool, AllocError>
 where
     Lanes<BabyBear<W>, W>: LaneWidth<W>,
+    requires { W ≤ 16 }
 {
     holds::<BabyBear<W>>(alloc, row)
+}
+
+/// Whether constants and both storages over an extension of residues are as they must be. The bound names
+/// its field: a call with two types as parameters is more than the prover takes.
+fn over_residues<const W: usize, EF: ExtensionField<BabyBear<W>>>(
+    alloc: Global,
+) -> Result<bool, AllocError>
+where
+    Lanes<BabyBear<W>, W>: LaneWidth<W>,
+    requires { W ≤ 16 }
+{
+    Ok(polys::is_constant::<EF>(alloc)? && storages::both::<BabyBear<W>, EF>(alloc)?)
+}
+
+/// [`over_residues`] over the quartic extension.
+pub fn quartics<const W: usize>(alloc: Global) -> Result<bool, AllocError>
+where
+    Lanes<BabyBear<W>, W>: LaneWidth<W>,
+    requires { W ≤ 16 }
+{
+    over_residues::<W, QuarticExtension<BabyBear<W>>>(alloc)
 }
 
 /// Whether the images of a split table of residues in the words are right.
