@@ -27,21 +27,6 @@ pub fn both_forms_agree<F: Field + Sample, EF: ExtensionField<F> + Sample>(
     Ok(true)
 }
 
-/// The same for a few of these numbers, where all take long.
-pub fn both_forms_agree_at_few<F: Field + Sample, EF: ExtensionField<F> + Sample>(
-    alloc: Global,
-) -> Result<bool, AllocError>
-    requires { F.Packing.WIDTH < 32 }
-{
-    let mut rng = Pcg32::new(4, 54);
-    for n in 0..131 {
-        if (n <= 5 || n == 130) && !forms_agree_at::<F, EF>(alloc, &mut rng, n)? {
-            return Ok(false);
-        }
-    }
-    Ok(true)
-}
-
 /// Whether both forms of each kernel agree, for `n` packed weights: the dot of two rows, and outputs
 /// of a few lengths.
 fn forms_agree_at<F: Field + Sample, EF: ExtensionField<F> + Sample>(

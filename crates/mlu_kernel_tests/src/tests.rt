@@ -1,7 +1,7 @@
 //! Worked rows, and both forms of the kernels at many lengths, widths and dimensions.
 ghost use Rattle.std.specs.Prelude.{◌≡◌, ◌<◌, ◌*◌, IfOk, length};
 
-use crate::both_forms::{both_forms_agree, both_forms_agree_at_few};
+use crate::both_forms::both_forms_agree;
 use mlu_ext::{ProductAlgebra, QuarticExtension};
 use mlu_kernel::one_row::{lane_sum, row_dot_in_lanes};
 use mlu_kernel::rows::row_dots;
@@ -25,7 +25,6 @@ enum Row {
     OneRow,
     FourRows,
     BothForms,
-    BothFormsAtFew,
 }
 
 /// Whether the row holds.
@@ -40,7 +39,6 @@ fn holds<F: Field + Sample, EF: ExtensionField<F> + Sample>(
         Row::OneRow => lanes_of_one_row::<F, EF>(alloc),
         Row::FourRows => four_rows_added::<F, EF>(alloc),
         Row::BothForms => both_forms_agree::<F, EF>(alloc),
-        Row::BothFormsAtFew => both_forms_agree_at_few::<F, EF>(alloc),
     }
 }
 
@@ -100,6 +98,7 @@ where
 fn worked_dots(rt: HostRuntime) -> Result<(), Fail> {
     assert!(rt; residues::<4>(rt.alloc(), Row::TwoRows)?);
     assert!(rt; quartics::<4>(rt.alloc(), Row::TwoRows)?);
+    assert!(rt; nine_copies::<4>(rt.alloc(), Row::TwoRows)?);
     assert!(rt; residues::<4>(rt.alloc(), Row::OneRow)?);
     assert!(rt; quartics::<4>(rt.alloc(), Row::OneRow)?);
     Ok(())
@@ -135,7 +134,6 @@ fn both_forms_over_eight_copies(rt: HostRuntime) -> Result<(), Fail> {
     assert!(rt; eight_copies::<1>(rt.alloc(), Row::BothForms)?);
     assert!(rt; eight_copies::<2>(rt.alloc(), Row::BothForms)?);
     assert!(rt; eight_copies::<4>(rt.alloc(), Row::BothForms)?);
-    assert!(rt; eight_copies::<8>(rt.alloc(), Row::BothFormsAtFew)?);
     Ok(())
 }
 
@@ -144,7 +142,18 @@ fn both_forms_over_nine_copies(rt: HostRuntime) -> Result<(), Fail> {
     assert!(rt; nine_copies::<1>(rt.alloc(), Row::BothForms)?);
     assert!(rt; nine_copies::<2>(rt.alloc(), Row::BothForms)?);
     assert!(rt; nine_copies::<4>(rt.alloc(), Row::BothForms)?);
-    assert!(rt; nine_copies::<8>(rt.alloc(), Row::BothFormsAtFew)?);
+    Ok(())
+}
+
+#[test]
+fn both_forms_over_eight_copies_in_eight_lanes(rt: HostRuntime) -> Result<(), Fail> {
+    assert!(rt; eight_copies::<8>(rt.alloc(), Row::BothForms)?);
+    Ok(())
+}
+
+#[test]
+fn both_forms_over_nine_copies_in_eight_lanes(rt: HostRuntime) -> Result<(), Fail> {
+    assert!(rt; nine_copies::<8>(rt.alloc(), Row::BothForms)?);
     Ok(())
 }
 
@@ -189,7 +198,12 @@ fn dot_of_two_rows<F: Field, EF: ExtensionField<F>>(alloc: Global) -> Result<boo
     let eq0 = elements(alloc, &[1, 10])?;
     let mut dots = elements::<EF>(alloc, &[5, 6])?;
     row_dots::<F, EF>(&mut dots, &eq1, &chunk);
-    Ok(dots == elements(alloc, &[30, 70])? && dots_are::<F, EF>(&eq1, &chunk, &eq0, element(730)))
+    let zeros = elements(alloc, &[0, 0])?;
+    Ok(
+        dots == elements(alloc, &[30, 70])?
+            && dots_are::<F, EF>(&eq1, &chunk, &eq0, element(730))
+            && dots_are::<F, EF>(&[], &[], &zeros, EF::ZERO),
+    )
 }
 
 /// Whether the lanes of the dot of one row of four lanes add up to 70, and twice each weight to 20, by a

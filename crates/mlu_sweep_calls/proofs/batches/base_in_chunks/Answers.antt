@@ -1,7 +1,7 @@
-use Rattle.std.proofs.Common.{◌≡◌, ◌*◌, ◌/◌, ◌≤◌, length, refl, sym, subst, ap, ◌∙◌}
-use Rattle.std.proofs.Math.Nat.{mul-div_cancel}
+use Rattle.std.proofs.Common.{length, refl, ap, ◌∙◌}
 use Rattle.mlu_ring.proofs.Rows.{rows_of-multiple}
 use Rattle.mlu_point.proofs.Sizes.{places-of_rows}
+use Rattle.mlu_sweep_calls.proofs.Products.{chunks_fit}
 use Rattle.mlu_sweep_calls.proofs.batches.base_in_chunks.Goals as goal
 
 pub new-evals-requires : goal.new-evals-requires
@@ -13,7 +13,4 @@ eval_eq_base_batch_in_chunks-requires-clause-size g c =
 
 pub eval_eq_base_batch_in_chunks-requires-clause-chunks : goal.eval_eq_base_batch_in_chunks-requires-clause-chunks
 eval_eq_base_batch_in_chunks-requires-clause-chunks g c =
-    λ some.
-    let points = length c.args.batch.scalars.now in
-    let rows : length c.new-evals.result.values.now ≡ c.args.batch.variables * points = ap length c.new-evals.ensures.values ∙ c.requires.rows in
-    subst (λ k. c.args.log_chunks ≤ k) (sym (ap (λ k. k / points) rows ∙ mul-div_cancel c.args.batch.variables some)) c.requires.chunks
+    chunks_fit _ c.args.batch.variables (length c.args.batch.scalars.now) c.args.log_chunks (ap length c.new-evals.ensures.values ∙ c.requires.rows) c.requires.chunks
