@@ -1,5 +1,5 @@
 //! Drawn elements.
-ghost use Rattle.std.specs.Prelude.{◌≡◌, ◌<◌, ◌^◌, IfOk, vec_len};
+ghost use Rattle.std.specs.Prelude.{◌≡◌, IfOk, vec_len};
 
 use mlu_ring::Sample;
 use rand_pcg::Pcg32;
@@ -18,16 +18,4 @@ pub fn drawn<T: Sample + Copy>(
         values.push(T::sample(rng))?;
     }
     Ok(values)
-}
-
-/// A drawn table of `n` variables.
-pub fn drawn_table<T: Sample + Copy>(
-    alloc: Global,
-    rng: &mut Pcg32,
-    n: usize,
-) -> Result<Vec<T>, AllocError>
-    requires { n < 16 }
-    ensures { IfOk result (λ table. vec_len table ≡ 2 ^ n) }
-{
-    drawn(alloc, rng, 1 << n)
 }

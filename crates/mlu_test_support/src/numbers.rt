@@ -1,7 +1,7 @@
-//! The images of whole numbers in any ring, and elements with whole numbers as coefficients.
+//! The images of whole numbers in any ring.
 ghost use Rattle.std.specs.Prelude.{◌≡◌, IfOk, length};
 
-use mlu_ring::{Additive, ExtensionField, Field};
+use mlu_ring::Additive;
 use std::alloc::{AllocError, Global};
 
 /// The image of a whole number.
@@ -28,15 +28,4 @@ pub fn are<R: Additive>(elements: &[R], numbers: &[i32]) -> bool {
         }
     }
     elements.len() == numbers.len()
-}
-
-/// The element with these first coefficients, and zeros for the others.
-pub fn with_coefficients<F: Field, EF: ExtensionField<F>>(numbers: &[i32]) -> EF {
-    let mut value = EF::ZERO;
-    for (k, number) in numbers.iter().enumerate() {
-        if k < EF::DIMENSION {
-            value.set_coefficient(k, element(*number));
-        }
-    }
-    value
 }

@@ -66,19 +66,6 @@ pub fn dot<R: PrimeCharacteristicRing>(weights: &[R], entries: &[R]) -> R {
     sum
 }
 
-/// Adds a row of the entries for each weight, times that weight.
-pub fn add_rows<R: PrimeCharacteristicRing>(out: &mut [R], weights: &[R], entries: &[R])
-    requires { length entries.now ≡ length weights.now * length out.old }
-{
-    for y in 0..weights.len() {
-        let start = y * out.len();
-        let row = &entries[start..start + out.len()];
-        for z in 0..out.len() {
-            out[z] = out[z] + weights[y] * row[z];
-        }
-    }
-}
-
 /// Each entry of a first half times each weight of a second one, in order.
 pub fn split_table<R: PrimeCharacteristicRing>(
     alloc: Global,
@@ -142,21 +129,6 @@ pub fn compressed_suffix<R: PrimeCharacteristicRing>(
     (0..left)
         .map(|y| strided(weights, entries, y.saturating_mul(weights.len()), 1))
         .collect(alloc)
-}
-
-/// Whether `after` is `before` with each entry of `table`, times `scale`, added to its place.
-pub fn is_accumulated<R: PrimeCharacteristicRing>(
-    after: &[R],
-    before: &[R],
-    table: &[R],
-    scale: R,
-) -> bool {
-    for (new, (old, entry)) in after.iter().zip(before.iter().zip(table.iter())) {
-        if *new != *old + scale * *entry {
-            return false;
-        }
-    }
-    after.len() == before.len() && after.len() == table.len()
 }
 
 /// The last entry, and zero of none.
