@@ -76,14 +76,12 @@ faulty() {
   fi
 }
 
-# Runs the replay of a line with allocation $1 refused, one of its buffers, and tests that it ends with
-# the status of refused memory and nothing on standard output.
+# Replays a line with allocation $1 refused, one of the buffers of the streams, and tests that the replay says so.
 refused_replay() {
-  local ended=0
-  (cd crates/mlu_replay && head -n 1 stdin | rt try --fail-alloc "$1") >"$room/out.$1" 2>"$room/err.$1" || ended=$?
-  if [ "$ended" -ne 3 ] || [ -s "$room/out.$1" ]; then
-    cat "$room/out.$1" "$room/err.$1"
-    echo "mlu_replay: status $ended with allocation $1 refused, in place of 3"
+  if ! (cd crates/mlu_replay_lines && rt try --test --fail-alloc "$1" -- streams_refused) >"$room/out.$1" 2>&1 ||
+    ! grep -q '^ *refused replay_streams' "$room/out.$1"; then
+    cat "$room/out.$1"
+    echo "mlu_replay_lines: allocation $1 is refused, and the replay does not say so"
     exit 1
   fi
 }

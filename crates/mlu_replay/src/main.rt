@@ -4,27 +4,27 @@
 //! call that it names, at its rings and lane width. A line of output names each case whose answer
 //! differs, and each that can't be read; the last one counts them.
 //!
-//! [`replay::replay`] is the whole program but for the streams.
+//! [`mlu_replay_lines::replay::replay_streams`] is the whole program but for the answers.
 #![tactic(auto)]
 
-mod replay;
-mod stop;
-
-use crate::replay::{Tally, replay};
-use crate::stop::Stop;
-use std::io::{BufReader, BufWriter, Input};
+use mlu_replay_lines::fault::Fault;
+use mlu_replay_lines::replay::{Answers, replay_streams};
+use mlu_replay_rings::answer;
+use std::alloc::Global;
 use std::process::ExitCode;
 
-/// Replays standard input to standard output.
-fn replay_streams(rt: &HostRuntime) -> Result<Tally, Stop> {
-    let alloc = rt.alloc();
-    let mut input = BufReader::new(alloc, rt.reader()).map_err(|_| Stop::Memory)?;
-    let mut output = BufWriter::new(alloc, rt.stdout()).map_err(|_| Stop::Memory)?;
-    replay(alloc, &mut input, &mut output)
+/// This library's answers.
+struct Library;
+
+impl Answers for Library {
+    fn answer(alloc: Global, asked: &str) -> Result<String, Fault> {
+        answer(alloc, asked)
+    }
 }
 
 fn main(rt: HostRuntime) -> ExitCode {
-    ExitCode::from(match replay_streams(&rt) {
+    let replayed = replay_streams::<Library, _, _>(rt.alloc(), rt.reader(), rt.stdout());
+    ExitCode::from(match replayed {
         Ok(tally) => tally.status(),
         Err(stop) => stop.status(),
     })

@@ -3,8 +3,8 @@ use Rattle.std.specs.Prelude.{◌≡◌, ℕ, List, [], ◌∷◌, ◌++◌, ◌
 use Rattle.std.specs.List.{join_with_byte, slice_split}
 use Rattle.std.specs.declared.option.Option.{Option}
 use Rattle.std.specs.declared.result.Result.{Result}
-use Rattle.mlu_replay_calls.specs.declared.fault.Reason.{Reason}
-use Rattle.mlu_replay_calls.specs.declared.fault.Reason.TheVariants.{Element}
+use Rattle.mlu_replay_lines.specs.declared.fault.Reason.{Reason}
+use Rattle.mlu_replay_lines.specs.declared.fault.Reason.TheVariants.{Element}
 use Rattle.mlu_lanes.specs.BabyBear.{canonical}
 use Rattle.mlu_lanes.specs.declared.baby_bear.BabyBear.{BabyBear}
 

@@ -1,3 +1,2 @@
 pub mod Elements
-pub mod Faults
 pub mod Words

@@ -2,17 +2,14 @@
 use Rattle.std.specs.Prelude.{◌≡◌, ◌≢◌, ℕ, ◌<◌, ◌^◌, Bool, List, length, nat_lt, slice_index, ◌==◌, if◌then◌else◌, decimal, MatchResult}
 use Rattle.std.specs.Prelude.{None, Some}
 use Rattle.std.specs.Option.{option_map}
-use Rattle.std.specs.List.{before_first, after_first, position_or_len}
+use Rattle.std.specs.List.{after_first, position_or_len}
 use Rattle.std.specs.declared.option.Option.{Option}
 use Rattle.std.specs.declared.result.Result.{Result}
 use Rattle.std.specs.declared.result.Result.TheVariants.{Err}
-use Rattle.mlu_replay_calls.specs.declared.fault.Reason.{Reason}
-use Rattle.mlu_replay_calls.specs.declared.fault.Reason.TheVariants.{Missing, Number, Choice}
+use Rattle.mlu_replay_lines.specs.Counts.{first_word}
+use Rattle.mlu_replay_lines.specs.declared.fault.Reason.{Reason}
+use Rattle.mlu_replay_lines.specs.declared.fault.Reason.TheVariants.{Missing, Number, Choice}
 use Rattle.mlu_replay_calls.specs.declared.words.Words.{Words}
-
--- the bytes before the first space, or all
-abbrev pub first_word : List ℕ → List ℕ
-first_word text = before_first (λ byte. byte == 32) text
 
 -- the bytes after the first space, if there is one
 abbrev pub other_words : List ℕ → Option (List ℕ)

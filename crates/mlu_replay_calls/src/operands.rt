@@ -9,9 +9,9 @@ ghost use Rattle.mlu_replay_calls.specs.Words.{IsTaken, Takes, words_left};
 ghost use Rattle.multilinear_util.specs.Split.{split_entries};
 
 use crate::element::Element;
-use crate::fault::{Fault, Reason};
 use crate::lines::NONE;
 use crate::words::Words;
+use mlu_replay_lines::fault::{Fault, Reason};
 use mlu_ring::{Additive, ExtensionField, Field};
 use multilinear_util::point::Point;
 use multilinear_util::poly::Poly;
@@ -120,6 +120,7 @@ impl Words<'_> {
     }
 
     /// A table and a point with at most as many coordinates as it has variables.
+    #[tactic(auto, using(crate::proofs::Powers::part_within))]
     pub fn table_and_part<A: Element, B: Element>(&mut self) -> Result<(Poly<A>, Point<B>), Fault>
         ensures { IfOk result (λ x. 2 ^ length x.1 ≤ length x.0) }
     {
@@ -147,6 +148,7 @@ impl Words<'_> {
     }
 
     /// The storage of a split table, a table, and a split table with at most as many entries.
+    #[tactic(auto, using(crate::proofs::Powers::part_within))]
     pub fn table_and_smaller_split<F: Field + Element, EF: ExtensionField<F> + Element>(
         &mut self,
     ) -> Result<(Poly<F>, SplitEq<F, EF>), Fault>
@@ -186,6 +188,7 @@ impl Words<'_> {
 }
 
 /// The split table of a point, times a scale, packed or not.
+#[tactic(auto, using(crate::proofs::Powers::half_power_fits))]
 fn split_table<F: Field, EF: ExtensionField<F>>(
     alloc: Global,
     point: &Point<EF>,

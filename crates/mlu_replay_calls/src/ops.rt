@@ -10,8 +10,8 @@ mod successors;
 mod tables;
 
 use crate::element::Element;
-use crate::fault::{Fault, Reason};
 use crate::words::Words;
+use mlu_replay_lines::fault::{Fault, Reason};
 use mlu_ring::{ExtensionField, Field, MapFrom, SelfAlgebra};
 
 /// Whether the table of calls does not have the call.

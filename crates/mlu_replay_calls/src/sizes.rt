@@ -2,7 +2,7 @@
 ghost use Rattle.std.specs.Prelude.{◌≡◌, ◌+◌, ◌*◌, ◌^◌, length, IfOk, IsTrue};
 ghost use Rattle.mlu_ring.specs.Lanes.{logical};
 
-use crate::fault::{Fault, Reason};
+use mlu_replay_lines::fault::{Fault, Reason};
 use mlu_ring::{ExtensionField, Field, PackedValue, log2_strict_usize};
 use multilinear_util::poly::Poly;
 use std::alloc::Global;

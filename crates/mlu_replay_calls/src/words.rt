@@ -3,7 +3,7 @@ ghost use Rattle.std.specs.Prelude.{◌≡◌, ◌≢◌, None, Some, codes, IsO
 ghost use Rattle.mlu_replay_calls.specs.Words.{Takes, IsNumber, IsChoice, words_left};
 
 use crate::decimals::decimal;
-use crate::fault::Reason;
+use mlu_replay_lines::fault::Reason;
 use std::alloc::Global;
 
 /// The words of a case that are still to be read.

@@ -3,10 +3,10 @@ ghost use Rattle.std.specs.Prelude.{◌≡◌, ◌<◌, ◌/◌, ◌^◌, [], le
 ghost use Rattle.mlu_ring.specs.Matrices.{dimension};
 
 use crate::element::Element;
-use crate::fault::{Fault, Reason};
 use crate::lines::list_word;
 use crate::sizes::has_variables;
 use crate::words::Words;
+use mlu_replay_lines::fault::{Fault, Reason};
 use mlu_ring::{ExtensionField, Field, RowMajorMatrix};
 use multilinear_util::eq_batch::{eval_eq_base_batch, eval_eq_batch};
 use multilinear_util::point::Point;

@@ -1,10 +1,10 @@
 //! Calls that compress a table at a point.
 
 use crate::element::Element;
-use crate::fault::{Fault, Reason};
 use crate::lines::list_word;
 use crate::sizes::variables_over_lanes;
 use crate::words::Words;
+use mlu_replay_lines::fault::{Fault, Reason};
 use mlu_ring::{ExtensionField, Field};
 
 /// `compress_prefix`: a table, a point and a scale.

@@ -1,10 +1,10 @@
 //! Calls that give the value of a table at a point.
 
 use crate::element::Element;
-use crate::fault::{Fault, Reason};
 use crate::lines::word;
 use crate::sizes::pack;
 use crate::words::Words;
+use mlu_replay_lines::fault::{Fault, Reason};
 use mlu_ring::{ExtensionField, Field};
 use multilinear_util::poly::PolyMaybePacked;
 

@@ -1,9 +1,9 @@
 //! Calls that fold a table.
 
 use crate::element::Element;
-use crate::fault::{Fault, Reason};
 use crate::lines::{list_word, word};
 use crate::words::Words;
+use mlu_replay_lines::fault::{Fault, Reason};
 use mlu_ring::{Algebra, ExtensionField, Field, PackedValue, PrimeCharacteristicRing, SelfAlgebra};
 
 /// `fix_prefix_var`: a table and an element.

@@ -1,10 +1,10 @@
 //! Calls of split equality tables.
 
 use crate::element::Element;
-use crate::fault::{Fault, Reason};
 use crate::lines::{list_word, word};
 use crate::sizes::{pack, variables_left, variables_over_lanes};
 use crate::words::Words;
+use mlu_replay_lines::fault::{Fault, Reason};
 use mlu_ring::{ExtensionField, Field, MapFrom};
 
 /// `split.eval_base`: the storage, a table, a point and a scale.

@@ -1,9 +1,9 @@
 //! Calls of the successor: the table, the rows and the compressions moved on by one place.
 
 use crate::element::Element;
-use crate::fault::{Fault, Reason};
 use crate::lines::{list_word, word};
 use crate::words::Words;
+use mlu_replay_lines::fault::{Fault, Reason};
 use mlu_ring::{ExtensionField, Field};
 use multilinear_util::point::Point;
 use multilinear_util::poly::Poly;

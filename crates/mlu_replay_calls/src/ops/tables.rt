@@ -1,11 +1,11 @@
 //! Calls that make tables, and those that change no values.
 
 use crate::element::Element;
-use crate::fault::{Fault, Reason};
 use crate::lines::list_word;
 use crate::operands::MOST_VARIABLES;
 use crate::sizes::pack;
 use crate::words::Words;
+use mlu_replay_lines::fault::{Fault, Reason};
 use mlu_ring::{ExtensionField, Field, PackedValue, PrimeCharacteristicRing};
 use multilinear_util::poly::Poly;
 

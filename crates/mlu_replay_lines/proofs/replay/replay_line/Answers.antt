@@ -1,6 +1,6 @@
 use Rattle.std.proofs.Common.{rules}
-use Rattle.mlu_replay.proofs.Lines.{TellsDiffering-written}
-use Rattle.mlu_replay.proofs.replay.replay_line.Goals as goal
+use Rattle.mlu_replay_lines.proofs.Lines.{TellsDiffering-written}
+use Rattle.mlu_replay_lines.proofs.replay.replay_line.Goals as goal
 
 -- src/replay.rt:117:1
 pub returns-else-eq-clause-differs : goal.returns-else-eq-clause-differs

@@ -1,13 +1,13 @@
 -- How many cases there are, and what the program says of all of them.
 use Rattle.std.specs.Prelude.{◌≡◌, ◌≢◌, ℕ, ◌+◌, List, [], ◌∷◌, ◌++◌, ◌==◌, if◌then◌else◌, ◌⊎◌, None, IsUtf8, codes, decimal}
-use Rattle.mlu_replay_calls.specs.Faults.{reason_text}
-use Rattle.mlu_replay_calls.specs.Words.{first_word}
-use Rattle.mlu_replay_calls.specs.declared.fault.Reason.{Reason}
-use Rattle.mlu_replay_calls.specs.declared.fault.Reason.TheVariants.{Text, Equals}
-use Rattle.mlu_replay.specs.declared.replay.Case.{Case}
-use Rattle.mlu_replay.specs.declared.replay.Tally.{Tally}
-use Rattle.mlu_replay.specs.declared.stop.Stop.{Stop}
-use Rattle.mlu_replay.specs.declared.stop.Stop.TheVariants.{Read, Memory, Write}
+use Rattle.mlu_replay_lines.specs.Faults.{reason_text}
+use Rattle.std.specs.List.{before_first}
+use Rattle.mlu_replay_lines.specs.declared.fault.Reason.{Reason}
+use Rattle.mlu_replay_lines.specs.declared.fault.Reason.TheVariants.{Text, Equals}
+use Rattle.mlu_replay_lines.specs.declared.replay.Case.{Case}
+use Rattle.mlu_replay_lines.specs.declared.replay.Tally.{Tally}
+use Rattle.mlu_replay_lines.specs.declared.stop.Stop.{Stop}
+use Rattle.mlu_replay_lines.specs.declared.stop.Stop.TheVariants.{Read, Memory, Write}
 use Rattle.std.specs.Str.Pattern.{FindsText}
 use Rattle.std.specs.Io.KnownBytes.{Appends}
 use Rattle.std.specs.declared.option.Option.{Option}
@@ -34,6 +34,10 @@ differ_line number op given answer =
 -- the line for one that is no case
 abbrev pub unknown_line : ℕ → List ℕ → List ℕ
 unknown_line number reason = codes "line " ++ (decimal number ++ (codes ": unknown: " ++ (reason ++ codes "\n")))
+
+-- the bytes before the first space, or all
+abbrev pub first_word : List ℕ → List ℕ
+first_word text = before_first (λ byte. byte == 32) text
 
 -- the line for this case, where it differs
 abbrev pub case_line : ℕ → Case → List ℕ → List ℕ

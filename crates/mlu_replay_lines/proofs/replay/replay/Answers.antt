@@ -1,6 +1,6 @@
 use Rattle.std.proofs.Common.{◌+◌, ap, ◌∙◌}
-use Rattle.mlu_replay.proofs.Lines.{HasRead-line, Grows-on}
-use Rattle.mlu_replay.proofs.replay.replay.Goals as goal
+use Rattle.mlu_replay_lines.proofs.Lines.{HasRead-line, Grows-on}
+use Rattle.mlu_replay_lines.proofs.replay.replay.Goals as goal
 
 -- src/replay.rt:51:5
 pub loop-lines-preserved : goal.loop-lines-preserved

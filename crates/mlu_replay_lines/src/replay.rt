@@ -3,15 +3,14 @@ ghost use Rattle.std.specs.Prelude.{◌≡◌, ◌≢◌, ◌+◌, ◌<◌, ◌�
 ghost use Rattle.std.specs.Io.KnownBytes.{Appends, IsAtEnd};
 ghost use Rattle.std.specs.IoError.{error_kind};
 ghost use Rattle.std.specs.Io.BufRead.{DropsThrough, first_piece};
-ghost use Rattle.mlu_replay.specs.Counts.{Grows, GrowsTo, IsNoCase, MoreDiffer, MoreUnknown, TellsDiffering, TellsUnknown, case_line, count_line, disagreeing, line_count, unknown_line};
-ghost use Rattle.mlu_replay_calls.specs.Faults.{reason_text};
-ghost use Rattle.mlu_replay_calls.specs.Words.{first_word};
+ghost use Rattle.mlu_replay_lines.specs.Counts.{Grows, GrowsTo, IsNoCase, MoreDiffer, MoreUnknown, TellsDiffering, TellsUnknown, case_line, count_line, disagreeing, line_count, unknown_line};
+ghost use Rattle.mlu_replay_lines.specs.Faults.{reason_text};
+ghost use Rattle.mlu_replay_lines.specs.Counts.{first_word};
 
+use crate::fault::{Fault, Reason};
 use crate::stop::Stop;
-use mlu_replay_calls::fault::{Fault, Reason};
-use mlu_replay_rings::answer;
 use std::alloc::Global;
-use std::io::{self, BufRead, ErrorKind, Write};
+use std::io::{self, BufRead, BufReader, BufWriter, ErrorKind, Read, Write};
 use std::str;
 
 /// How many cases were compared, how many of them differ, and how many lines were no cases.
@@ -35,12 +34,35 @@ impl Tally {
     }
 }
 
+/// What answers the cases.
+pub trait Answers {
+    /// The answer to what is asked: the call, the width, the tag of the rings, and the operands.
+    ///
+    /// # Errors
+    /// Where the call, its rings or its operands are none that there are, and where memory is refused.
+    fn answer(alloc: Global, asked: &str) -> Result<String, Fault>;
+}
+
+/// As [`replay`], with a buffer for each stream.
+///
+/// # Errors
+/// As [`replay`], and where a buffer is refused: then nothing is read or written.
+pub fn replay_streams<A: Answers, R: Read + Drop, W: Write + Drop>(
+    alloc: Global,
+    input: R,
+    out: W,
+) -> Result<Tally, Stop> {
+    let mut input = BufReader::new(alloc, input).map_err(|_| Stop::Memory)?;
+    let mut out = BufWriter::new(alloc, out).map_err(|_| Stop::Memory)?;
+    replay::<A, _, _>(alloc, &mut input, &mut out)
+}
+
 /// Answers each line of the input, writes a line for each that differs or is unknown, and then the
 /// count. Where the bytes of the input are known, as many lines are compared or unknown as it has.
 ///
 /// # Errors
 /// Where the input can't be read, or has 2^64 lines; where a write fails, or memory is refused.
-pub fn replay<R: BufRead, W: Write>(
+pub fn replay<A: Answers, R: BufRead, W: Write>(
     alloc: Global,
     input: &mut R,
     out: &mut W,
@@ -56,7 +78,7 @@ pub fn replay<R: BufRead, W: Write>(
             write_count(tally, out)?;
             return Ok(tally);
         }
-        replay_line(alloc, lines + 1, &line, &mut tally, out)?;
+        replay_line::<A, W>(alloc, lines + 1, &line, &mut tally, out)?;
     }
     Err(Stop::Read)
 }
@@ -122,7 +144,7 @@ impl<'a> Case<'a> {
 }
 
 /// Answers one line, counts it, and reports it where that is due.
-fn replay_line<W: Write>(
+fn replay_line<A: Answers, W: Write>(
     alloc: Global,
     number: u64,
     line: &[u8],
@@ -139,7 +161,7 @@ fn replay_line<W: Write>(
     ensures grows { OnOk result (Grows (W.contents out.old) (W.contents out.new)) }
     ensures stop { IfErr result (λ stop. stop ≢ Stop.Read) }
 {
-    match answered(alloc, line) {
+    match answered::<A>(alloc, line) {
         Ok((case, text)) => {
             let answer = text.as_str();
             tally.compared += 1;
@@ -184,12 +206,12 @@ fn report_unknown<W: Write>(number: u64, reason: Reason, out: &mut W) -> Result<
     writeln!(out, "line {number}: unknown: {reason}").map_err(|_| Stop::Write)
 }
 
-/// The case of a line, and this library's answer.
-fn answered(alloc: Global, line: &[u8]) -> Result<(Case<'_>, String), Fault>
+/// The case of a line, and its answer.
+fn answered<A: Answers>(alloc: Global, line: &[u8]) -> Result<(Case<'_>, String), Fault>
     ensures { IfOk result (λ both. line.now ≡ both.0.asked.now ++ (codes " = " ++ both.0.given.now)) }
 {
     let case = Case::read(line)?;
-    let answer = answer(alloc, case.asked)?;
+    let answer = A::answer(alloc, case.asked)?;
     Ok((case, answer))
 }
 

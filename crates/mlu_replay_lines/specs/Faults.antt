@@ -1,7 +1,7 @@
 -- The reasons why a line is no case, in words.
 use Rattle.std.specs.Prelude.{ℕ, List, codes}
-use Rattle.mlu_replay_calls.specs.declared.fault.Reason.{Reason}
-use Rattle.mlu_replay_calls.specs.declared.fault.Reason.TheVariants.{Text, Equals, Missing, Surplus, Width, Tag, Op, Element, Number, Choice, Length, Size, Large}
+use Rattle.mlu_replay_lines.specs.declared.fault.Reason.{Reason}
+use Rattle.mlu_replay_lines.specs.declared.fault.Reason.TheVariants.{Text, Equals, Missing, Surplus, Width, Tag, Op, Element, Number, Choice, Length, Size, Large}
 
 abbrev pub reason_text : Reason → List ℕ
 reason_text Text = codes "the line is no UTF-8 text"

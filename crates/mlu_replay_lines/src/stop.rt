@@ -1,8 +1,8 @@
 //! Why the program stops before the end of its input.
 
 ghost use Rattle.std.specs.Prelude.{◌≡◌};
-ghost use Rattle.mlu_replay.specs.Counts.{stop_status};
-ghost use Rattle.mlu_replay.specs.declared.stop.Stop.TheVariants.{Memory};
+ghost use Rattle.mlu_replay_lines.specs.Counts.{stop_status};
+ghost use Rattle.mlu_replay_lines.specs.declared.stop.Stop.TheVariants.{Memory};
 
 use std::alloc::AllocError;
 

@@ -1,7 +1,7 @@
 use Rattle.std.proofs.Common.{◌≡◌, ◌+◌, ◌≤◌}
-use Rattle.mlu_replay.specs.Counts.{Grows}
-use Rattle.mlu_replay.proofs.Lines.{HasRead}
-use Rattle.mlu_replay.proofs.replay.replay.Given as goal
+use Rattle.mlu_replay_lines.specs.Counts.{Grows}
+use Rattle.mlu_replay_lines.proofs.Lines.{HasRead}
+use Rattle.mlu_replay_lines.proofs.replay.replay.Given as goal
 
 abbrev pub invariant-loop-lines : goal.invariant-loop-lines
 invariant-loop-lines g l = record {

@@ -2,8 +2,8 @@
 use Rattle.std.proofs.Common.{◌≡◌, ◌≢◌, ℕ, ◌+◌, Bool, true, false, eqb, cond, List, [], ◌∷◌, ◌++◌, Option, None, Some, IfSome, Result, Ok, Err, OnOk, codes, refl, ap, ◌∙◌, subst, arith, append_assoc}
 use Rattle.std.specs.Io.BufRead.{drop_through, DropsThrough}
 use Rattle.std.specs.Io.KnownBytes.{Appends}
-use Rattle.mlu_replay_calls.specs.Words.{first_word}
-use Rattle.mlu_replay.specs.Counts.{Grows, TellsDiffering, differ_line, line_count}
+use Rattle.mlu_replay_lines.specs.Counts.{first_word}
+use Rattle.mlu_replay_lines.specs.Counts.{Grows, TellsDiffering, differ_line, line_count}
 
 -- so many lines were read
 abbrev pub HasRead : Option (List ℕ) → Option (List ℕ) → ℕ → Type 0

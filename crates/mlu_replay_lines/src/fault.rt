@@ -1,8 +1,8 @@
 //! Why a case has no answer.
 
 ghost use Rattle.std.specs.Prelude.{◌≡◌};
-ghost use Rattle.mlu_replay_calls.specs.Faults.{reason_text};
-ghost use Rattle.mlu_replay_calls.specs.declared.fault.Fault.TheVariants.{Unknown, Memory};
+ghost use Rattle.mlu_replay_lines.specs.Faults.{reason_text};
+ghost use Rattle.mlu_replay_lines.specs.declared.fault.Fault.TheVariants.{Unknown, Memory};
 
 use std::alloc::AllocError;
 
