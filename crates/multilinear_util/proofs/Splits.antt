@@ -1,38 +1,76 @@
 -- Split tables: what their halves stand for, and the sizes of what they are paired with.
-use Rattle.std.proofs.Common.{◌≡◌, ℕ, ◌-◌, ◌*◌, ◌+◌, ◌/◌, ◌^◌, ◌<◌, ◌≤◌, List, ◌++◌, map, length, refl, sym, ap, ◌∙◌, subst, arith, pow-add}
-use Rattle.std.proofs.lemmas.List.{length-map}
+use Rattle.std.proofs.Common.{◌≡◌, ℕ, ◌-◌, ◌*◌, ◌+◌, ◌/◌, ◌^◌, ◌<◌, ◌≤◌, List, [], ◌∷◌, ◌++◌, map, length, replicate, refl, sym, ap, ◌∙◌, subst, arith, pow-add}
+use Rattle.std.proofs.lemmas.List.{length-map, length-replicate}
 use Rattle.std.proofs.lemmas.Nat.{pow_pos}
 use Rattle.std.proofs.Math.Nat.{mul_comm, mul_assoc}
 use Rattle.std.proofs.Math.Pow.{pow_mono}
 use Rattle.std.specs.Prelude.{IsTrue}
-use Rattle.std.specs.Int.{is_power_of_two}
+use Rattle.std.specs.Int.{is_power_of_two, div_ceil}
 use Rattle.std.specs.Int.Count.{count_trailing_zeros}
 use Rattle.mlu_ring.proofs.PowersOfTwo.{power_of_test, exponent_fits}
-use Rattle.mlu_ring.specs.Ring.{Ring, RingLaws}
+use Rattle.mlu_ring.specs.Ring.{Ring, RingLaws, IsRingMap}
+use Rattle.mlu_ring.specs.Lanes.{logical}
 use Rattle.mlu_ring.specs.Tables.{weights, pair, value}
 use Rattle.mlu_eq.specs.Half.{Half}
 use Rattle.mlu_eq.specs.Split.{contents}
-use Rattle.mlu_eq.proofs.Contents.{length-contents, contents-weights}
+use Rattle.mlu_eq.proofs.Contents.{length-contents, contents-images, contents-weights}
+use Rattle.mlu_eq.proofs.Runs.{logical-itself, run-length-some}
 use Rattle.mlu_point.proofs.Equality.{length-weights}
 use Rattle.mlu_ring.proofs.Rings.{map-one}
 use Rattle.multilinear_util.specs.Split.{Split, split_entries}
 use Rattle.multilinear_util.proofs.Lengths.{exponents, quotient_of_powers}
 use Rattle.multilinear_util.proofs.Scaled.{pair-weights}
 
--- rows as long as the output, for each entry of a table
-pub rows_of-powers : (eq0 w out e k n : ℕ) → eq0 * w ≡ 2 ^ k → e ≡ 2 ^ n → out ≡ 2 ^ (n - k) → 2 ^ k ≤ 2 ^ n → e ≡ eq0 * (w * out)
-rows_of-powers eq0 w out e k n size sized is le =
-    sized ∙ quotient_of_powers n k le ∙ mul_comm (2 ^ (n - k)) (2 ^ k) ∙ ap (λ m. m * 2 ^ (n - k)) (sym size) ∙ mul_assoc eq0 w (2 ^ (n - k)) ∙ ap (λ m. eq0 * (w * m)) (sym is)
-
 pub size_of-powers : (c e k n : ℕ) → c ≡ 2 ^ k → e ≡ 2 ^ n → 2 ^ k ≤ 2 ^ n → e ≡ c * 2 ^ (n - k)
 size_of-powers c e k n size sized le = sized ∙ quotient_of_powers n k le ∙ mul_comm (2 ^ (n - k)) (2 ^ k) ∙ ap (λ m. m * 2 ^ (n - k)) (sym size)
 
-pub some_of-power : (c k : ℕ) → c ≡ 2 ^ k → 0 < c
-some_of-power c k size = subst (λ m. 0 < m) (sym size) (pow_pos k)
+pub some_of_power : (c k : ℕ) → c ≡ 2 ^ k → 0 < c
+some_of_power c k size = subst (λ m. 0 < m) (sym size) (pow_pos k)
 
 -- a table with at most as many entries as another, where both have a power of two
 pub fewer : (c e k n : ℕ) → c ≡ 2 ^ k → e ≡ 2 ^ n → c ≤ e → 2 ^ k ≤ 2 ^ n
 fewer c e k n size sized le = subst (λ m. m ≤ 2 ^ n) size (subst (λ m. c ≤ m) sized le)
+
+-- and at most as many variables
+pub exponent_within : (c e k n : ℕ) → c ≡ 2 ^ k → e ≡ 2 ^ n → c ≤ e → k ≤ n
+exponent_within c e k n size sized le = exponents n k (fewer c e k n size sized le)
+
+-- so many values are left for each of 2 ^ k entries
+pub quotient_left : (k n : ℕ) → 2 ^ k ≤ 2 ^ n → 2 ^ (n - k) * 2 ^ k ≡ 2 ^ n
+quotient_left k n le = sym (quotient_of_powers n k le)
+
+-- as many zeros as were made
+pub length_of_replicate : {R : Type 0} (n : ℕ) (zero : R) → length (replicate n zero) ≡ n
+length_of_replicate n zero = length-replicate n zero
+
+pub one_lane_left : (e c s : ℕ) → e ≡ c * s → e ≡ c * (s * 1)
+one_lane_left e c s is = is ∙ omega arith
+
+-- so many values for each entry, of one lane each
+pub size_left : (e c k n : ℕ) → e ≡ 2 ^ n → c ≡ 2 ^ k → c ≤ e → e ≡ c * (2 ^ (n - k) * 1)
+size_left e c k n sized size le = one_lane_left e c (2 ^ (n - k)) (size_of-powers c e k n size sized (fewer c e k n size sized le))
+
+-- where each value is its own lane, the lanes are the values
+pub logical_of_scalars : {R : Type 0} (xs : List R) → logical (λ x. x ∷ []) xs ≡ xs
+logical_of_scalars xs = logical-itself xs
+
+-- a table has an entry for each weight of the one half and each of the other
+pub size_of_contents : {R : Type 0} (ring : Ring R) (eq0 w : List R) → length (contents ring eq0 w) ≡ length eq0 * length w
+size_of_contents ring eq0 w = length-contents ring eq0 w
+
+-- where each half has a power of two weights, the variables add up
+pub entries_of_powers : {R : Type 0} (ring : Ring R) (eq0 w : List R) (a b : ℕ) → length eq0 ≡ 2 ^ a → length w ≡ 2 ^ b → length (contents ring eq0 w) ≡ 2 ^ (a + b)
+entries_of_powers ring eq0 w a b first second =
+    length-contents ring eq0 w ∙ ap (λ m. m * length w) first ∙ ap (λ m. 2 ^ a * m) second ∙ sym (pow-add 2 a b)
+
+-- the images of the halves have the images of the entries, where sums and products are kept
+pub contents_of_images : {B R : Type 0} (base : Ring B) (ring : Ring R) (f : B → R) → IsRingMap base ring f → (eq0 w : List B) (e v : List R) → e ≡ map f eq0 → v ≡ map f w → contents ring e v ≡ map f (contents base eq0 w)
+contents_of_images base ring f keeps eq0 w e v first second =
+    ap (λ l. contents ring l v) first ∙ ap (λ l. contents ring (map f eq0) l) second ∙ contents-images base ring f keeps eq0 w
+
+-- a run of some entries is not empty
+pub some_in_run : (entries parts run : ℕ) → run ≡ div_ceil entries parts → 0 < parts → 0 < entries → 0 < run
+some_in_run entries parts run is one some = subst (λ k. 0 < k) (sym is) (run-length-some entries parts one some)
 
 module _ {R : Type 0} (ring : Ring R) (split : Split R) (slice : List R) (half : Half R) (first : slice ≡ split.eq0) (second : half ≡ split.eq1) where
   -- the halves, as the kernels take them, have the entries of the table
@@ -46,11 +84,6 @@ module _ {R : Type 0} (ring : Ring R) (split : Split R) (slice : List R) (half :
   pub halves-room : (values places : ℕ) → values ≡ length (split_entries ring split) * places → values ≡ length slice * (length half.weights * places)
   halves-room values places is =
       is ∙ ap (λ k. k * places) (halves-size (length (split_entries ring split)) refl) ∙ mul_assoc (length slice) (length half.weights) places
-
-  -- there is a row, as long as the output, for each entry of the table
-  pub halves-rows : (k n values out : ℕ) → length (split_entries ring split) ≡ 2 ^ k → values ≡ 2 ^ n → out ≡ 2 ^ (n - k) → 2 ^ k ≤ 2 ^ n → values ≡ length slice * (length half.weights * out)
-  halves-rows k n values out size sized is le =
-      rows_of-powers (length slice) (length half.weights) out values k n (sym (halves-size (2 ^ k) (sym size))) sized is le
 
 module _ {R : Type 0} (ring : Ring R) (laws : RingLaws ring) where
   -- the halves of a table at a scale
@@ -80,12 +113,37 @@ lanes_left out w k l n is width le =
     let e : n - k - l + l ≡ n - k = omega (arith, le) in
     ap (λ m. m * w) is ∙ ap (λ m. 2 ^ (n - k - l) * m) width ∙ sym (pow-add 2 (n - k - l) l) ∙ ap (λ j. 2 ^ j) e
 
+pub power_within : (k n : ℕ) → k ≤ n → 2 ^ k ≤ 2 ^ n
+power_within k n le = grind (arith, pow_mono {i = k} {j = n}, le)
+
+-- in a table with room for the lanes of a packing for each entry of another: no fewer variables than that has
+pub variables_of_rows : (c w e k l n : ℕ) → c ≡ 2 ^ k → w ≡ 2 ^ l → e ≡ 2 ^ n → c * w ≤ e → k ≤ n
+variables_of_rows c w e k l n size width sized le =
+    let room = room_for_lanes c w e k l n size width sized le in
+    omega (arith, room)
+
+-- as many variables left as a packing has
+pub lanes_of_row : (c w e k l n : ℕ) → c ≡ 2 ^ k → w ≡ 2 ^ l → e ≡ 2 ^ n → c * w ≤ e → l ≤ n - k
+lanes_of_row c w e k l n size width sized le =
+    let room = room_for_lanes c w e k l n size width sized le in
+    omega (arith, room)
+
+-- and so many lanes in each row
+pub lanes_of_rows : (c w e k l n : ℕ) → c ≡ 2 ^ k → w ≡ 2 ^ l → e ≡ 2 ^ n → c * w ≤ e → e ≡ c * (2 ^ (n - k - l) * w)
+lanes_of_rows c w e k l n size width sized le =
+    let room = room_for_lanes c w e k l n size width sized le in
+    size_of-powers c e k n size sized (power_within k n (omega (arith, room)))
+    ∙ ap (λ m. c * m) (sym (lanes_left (2 ^ (n - k - l)) w k l n refl width room))
+
+-- a table of as many entries as two packings have lanes, multiplied, has the variables of both
+pub lanes_twice : (w l n : ℕ) → w ≡ 2 ^ l → w * w ≤ 2 ^ n → l ≤ n / 2
+lanes_twice w l n width le =
+    let room = room_for_lanes w w (2 ^ n) l l n width width refl le in
+    omega (arith, room)
+
 -- half as many weights fit a word, where all of them are entries of a table
 pub half_fits : (n e : ℕ) → 2 ^ n ≤ e → e < 2 ^ 64 → 2 ^ (n - n / 2) < 2 ^ 64
 half_fits n e le fits = grind (arith, pow_mono {i = n - n / 2} {j = n}, le, fits)
-
-pub power_within : (k n : ℕ) → k ≤ n → 2 ^ k ≤ 2 ^ n
-power_within k n le = grind (arith, pow_mono {i = k} {j = n}, le)
 
 -- and so it is with the lanes of packed entries
 pub lanes_fit : (m w l n : ℕ) → m < 2 ^ 64 → IsTrue (is_power_of_two m) → w ≡ 2 ^ l → w < 2 ^ 64 → m * w ≡ 2 ^ n → 2 ^ (n - n / 2) < 2 ^ 64
@@ -110,5 +168,11 @@ lanes_half_fits n w l e width le fits =
 pub left_fits : (n k : ℕ) → n < 64 → 2 ^ (n - k) < 2 ^ 64
 left_fits n k h = grind (arith, pow_mono {i = n - k} {j = 63}, h)
 
-pub one_lane_left : (e c s : ℕ) → e ≡ c * s → e ≡ c * (s * 1)
-one_lane_left e c s is = is ∙ omega arith
+-- what a compression of the prefix in runs asks of the places that it leaves
+pub ruleset prefix_in_runs = (exponent_within, left_fits, some_of_power, size_left, logical_of_scalars)
+
+-- and where these are packed
+pub ruleset packed_prefix_in_runs = (variables_of_rows, lanes_of_row, left_fits, some_of_power, lanes_of_rows)
+
+-- what a compression of the suffix asks of them
+pub ruleset suffix_left = (exponent_within, quotient_left, length_of_replicate)

@@ -126,6 +126,7 @@ impl<F: Copy> Poly<F> {
     }
 
     /// Keeps the lower half of the values. Asks for at least one variable.
+    #[tactic(auto, using(crate::proofs::Lengths::power_of_first_half))]
     pub fn truncate_to_half(&mut self)
         requires { 1 < length self.old }
         ensures { self.new ≡ take (length self.old / 2) self.old }
@@ -151,6 +152,7 @@ impl<F: PrimeCharacteristicRing> Poly<F> {
     ///
     /// # Errors
     /// Where memory is refused.
+    #[tactic(auto, using(crate::proofs::Lengths::power_of_size, crate::proofs::Splits::length_of_replicate))]
     pub fn zero(alloc: Global, variables: usize) -> Result<Self, AllocError>
         requires { 2 ^ variables < 2 ^ 64 }
         ensures { IfOk result (λ p. p ≡ replicate (2 ^ variables) F.ring.zero) }
@@ -165,6 +167,7 @@ impl<F: PrimeCharacteristicRing> Poly<F> {
     ///
     /// # Errors
     /// Where memory is refused; the polynomial is then as before. Never where the size is as before.
+    #[tactic(auto, using(crate::proofs::Lengths::power_of_size))]
     pub fn pad_zeros(&mut self, variables: usize) -> Result<(), AllocError>
         requires fits { 2 ^ variables < 2 ^ 64 }
         requires grows { length self.old ≤ 2 ^ variables }
@@ -237,6 +240,7 @@ impl<'a, F> IntoIterator for &'a Poly<F> {
 
 /// The number of values of a polynomial in so many variables.
 #[inline]
+#[tactic(auto, using(mlu_ring::proofs::PowersOfTwo::exponent_fits))]
 pub(crate) fn table_length(variables: usize) -> usize
     requires { 2 ^ variables < 2 ^ 64 }
     ensures { result ≡ 2 ^ variables }

@@ -4,7 +4,7 @@
 //! scale, and `eq1`, the weights of the others, as scalars or packed. With `L` weights in `eq1`,
 //! entry `x` of the whole table is `eq0[x / L] * eq1[x % L]`; it takes the memory of two tables of
 //! half as many variables. Evaluations, accumulations and compressions go over the halves.
-ghost use Rattle.std.specs.Prelude.{◌≡◌, ◌-◌, ◌/◌, ◌^◌, ◌<◌, ◌≤◌, ◌↔◌, length, map, slice_index_or, IfOk, IsTrue};
+ghost use Rattle.std.specs.Prelude.{◌≡◌, ◌-◌, ◌*◌, ◌/◌, ◌^◌, ◌<◌, ◌≤◌, ◌↔◌, length, map, slice_index_or, IfOk, IsTrue};
 ghost use Rattle.mlu_ring.specs.Ring.{IsRingMap};
 ghost use Rattle.mlu_ring.specs.Tables.{weights};
 
@@ -95,6 +95,7 @@ impl<F: Field, EF: ExtensionField<F>> SplitEq<F, EF> {
     ///
     /// # Errors
     /// Where memory is refused, or the number of weights of the second half does not fit `usize`.
+    #[tactic(auto, using(crate::proofs::Splits::contents_of_images))]
     pub fn to_field<R: ExtensionField<R> + MapFrom<EF>>(
         &self,
         alloc: Global,
@@ -110,6 +111,7 @@ impl<F: Field, EF: ExtensionField<F>> SplitEq<F, EF> {
     }
 
     /// The number of variables.
+    #[tactic(auto, using(crate::proofs::Splits::entries_of_powers))]
     pub fn num_variables(&self) -> usize
         ensures { length (split_entries EF.ring self.now) ≡ 2 ^ result }
     {
@@ -140,10 +142,12 @@ impl<F: Field, EF: ExtensionField<F>> SplitEq<F, EF> {
 
     /// Both halves, as the kernels take them.
     #[inline]
+    #[tactic(auto, using(mlu_eq::proofs::Lengths::positive_of_test, crate::proofs::Splits::size_of_contents))]
     fn halves(&self) -> (&[EF], &EqMaybePacked<F, EF>)
         ensures first { result.0.now ≡ self.now.eq0 }
         ensures second { result.1.now ≡ self.now.eq1 }
         ensures some { 0 < length result.0.now }
+        ensures size { length (split_entries EF.ring self.now) ≡ length result.0.now * length result.1.now.weights }
     {
         (self.eq0.as_slice(), &self.eq1)
     }

@@ -20,6 +20,7 @@ impl<F: Additive> PolyView<'_, F> {
     ///
     /// # Errors
     /// Where the memory for half the values is refused.
+    #[tactic(auto, using(crate::proofs::Lengths::power_of_front))]
     pub fn fix_prefix_var<EF: Algebra<F>>(
         &self,
         alloc: Global,
@@ -45,6 +46,7 @@ impl<F: Additive> PolyView<'_, F> {
     ///
     /// # Errors
     /// Where the memory for half the values is refused.
+    #[tactic(auto, using(crate::proofs::Lengths::power_of_back))]
     pub fn fix_suffix_var<EF: Algebra<F>>(
         &self,
         alloc: Global,
@@ -138,6 +140,7 @@ impl<F: PrimeCharacteristicRing> Poly<F> {
     ///
     /// # Errors
     /// Where the memory for half the values is refused; the polynomial is then as before.
+    #[tactic(auto, using(crate::proofs::Lengths::power_of_pairs))]
     pub fn fix_suffix_var_mut_split<R: Additive>(
         &mut self,
         alloc: Global,

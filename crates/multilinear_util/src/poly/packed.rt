@@ -15,6 +15,7 @@ impl<A: Copy> PolyView<'_, A> {
     ///
     /// # Errors
     /// Where the memory for the table is refused.
+    #[tactic(auto, using(crate::proofs::Packed::whole_groups))]
     pub fn pack<F: Field, EF: ExtensionField<F>>(
         &self,
         alloc: Global,
@@ -31,6 +32,7 @@ impl<A: Copy> PolyView<'_, A> {
     ///
     /// # Errors
     /// Where the memory for the table is refused, or the number of the lanes does not fit `usize`.
+    #[tactic(auto, using(crate::proofs::Packed::power_of_logical))]
     pub fn unpack<F: Field, EF: ExtensionField<F, ExtensionPacking = A>>(
         &self,
         alloc: Global,

@@ -19,6 +19,7 @@ impl<F: PrimeCharacteristicRing> Poly<F> {
     ///
     /// # Errors
     /// Where the memory for the table is refused.
+    #[tactic(auto, using(crate::proofs::Lengths::power_of_size, std::proofs::lemmas::Grind::common_steps))]
     pub fn new_from_point(alloc: Global, point: &[F], scale: F) -> Result<Self, AllocError>
         requires { 2 ^ length point.now < 2 ^ 64 }
         ensures { IfOk result (λ poly. poly ≡ map (F.ring.product scale) (weights F.ring point.now)) }
@@ -111,6 +112,7 @@ fn packed_table<F: Field, EF: ExtensionField<F>>(
 }
 
 /// [`Poly::new_from_point`] at the images of the coordinates.
+#[tactic(auto, using(crate::proofs::Lengths::power_of_size, std::proofs::lemmas::Grind::common_steps))]
 fn embedded_table<B: Additive, R: Algebra<B>>(
     alloc: Global,
     point: &[B],

@@ -53,6 +53,7 @@ impl<'a, F: Copy> PolyView<'a, F> {
     /// The number of variables: `n`, where there are `2^n` values. It is below 64. A packed table
     /// counts its elements: the variables of the lanes are not among them.
     #[inline]
+    #[tactic(auto, using(mlu_ring::proofs::PowersOfTwo::power_of_test, crate::proofs::Lengths::zeros_of_power))]
     pub fn num_variables(&self) -> usize
         ensures value { length (entries self.now) ≡ 2 ^ result }
         ensures small { result < 64 }
@@ -125,6 +126,7 @@ impl<EF: PrimeCharacteristicRing> AffineInEach<EF> for PolyView<'_, EF> {
         self.num_variables()
     }
 
+    #[tactic(auto, using(mlu_ring::proofs::PowersOfTwo::power_of_test))]
     fn at(&self, point: &[EF]) -> EF {
         eval_ext(self.as_slice(), point)
     }

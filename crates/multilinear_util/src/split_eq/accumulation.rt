@@ -32,6 +32,7 @@ impl<F: Field, EF: ExtensionField<F>> SplitEq<F, EF> {
     /// Where the memory for the whole table is refused, or the number of its entries does not fit
     /// `usize`; `out` is then as before. Never where the second half is packed and `k >= 2 log2(W)`,
     /// where the table has `k` variables.
+    #[tactic(auto, using(crate::proofs::Splits::lanes_twice))]
     pub fn accumulate_into_packed(
         &self,
         alloc: Global,
@@ -78,6 +79,7 @@ impl<F: Field, EF: ExtensionField<F>> SplitEq<F, EF> {
     ///
     /// # Errors
     /// Where the memory for the table is refused.
+    #[tactic(auto, using(crate::proofs::Scaled::unit_over_zeros, std::proofs::lemmas::Grind::common_steps))]
     pub fn materialize(&self, alloc: Global) -> Result<Poly<EF>, AllocError>
         requires { length (split_entries EF.ring self.now) < 2 ^ 64 }
         ensures { IfOk result (λ poly. poly ≡ split_entries EF.ring self.now) }

@@ -36,6 +36,7 @@ impl<F: Field, EF: ExtensionField<F>> SplitEq<F, EF> {
     ///
     /// # Errors
     /// Where the memory for the values that are left, or for those of a run, is refused.
+    #[tactic(auto, using(crate::proofs::Splits::prefix_in_runs))]
     pub fn compress_prefix_split(
         &self,
         alloc: Global,
@@ -71,6 +72,7 @@ impl<F: Field, EF: ExtensionField<F>> SplitEq<F, EF> {
     ///
     /// # Errors
     /// Where the memory for the values that are left, or for those of a run, is refused.
+    #[tactic(auto, using(crate::proofs::Splits::packed_prefix_in_runs))]
     pub fn compress_prefix_to_packed_split(
         &self,
         alloc: Global,
@@ -92,6 +94,7 @@ impl<F: Field, EF: ExtensionField<F>> SplitEq<F, EF> {
     ///
     /// # Errors
     /// Where the memory for the values that are left is refused.
+    #[tactic(auto, using(crate::proofs::Splits::suffix_left))]
     pub fn compress_suffix(
         &self,
         alloc: Global,
@@ -137,6 +140,7 @@ impl<F: Field, EF: ExtensionField<F>> SplitEq<F, EF> {
     ///
     /// # Errors
     /// Where the memory for the values that are left, or for those of a run, is refused.
+    #[tactic(auto, using(crate::proofs::Splits::prefix_in_runs))]
     pub fn compress_prefix_shifted_split(
         &self,
         alloc: Global,
@@ -157,6 +161,7 @@ impl<F: Field, EF: ExtensionField<F>> SplitEq<F, EF> {
     ///
     /// # Errors
     /// Where the memory for the values that are left is refused.
+    #[tactic(auto, using(crate::proofs::Splits::suffix_left))]
     pub fn compress_suffix_shifted(
         &self,
         alloc: Global,

@@ -62,6 +62,7 @@ impl<F: Field, EF: ExtensionField<F>> SplitEq<F, EF> {
     ///
     /// # Errors
     /// Where the memory to unpack the polynomial is refused. Never where the second half is packed.
+    #[tactic(auto, using(crate::proofs::Packed::size_of_unpacked))]
     pub fn eval_packed(
         &self,
         alloc: Global,

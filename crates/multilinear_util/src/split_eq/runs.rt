@@ -27,6 +27,7 @@ impl<F: Field, EF: ExtensionField<F>> SplitEq<F, EF> {
 
     /// The compression of the polynomial, with `variables` variables of places left and the first
     /// half cut into `parts` runs.
+    #[tactic(auto, using(crate::proofs::Splits::some_in_run))]
     pub(super) fn compressed<T: PrimeCharacteristicRing, P: PrefixCompression<F, EF, T>>(
         &self,
         alloc: Global,
