@@ -1,20 +1,27 @@
 -- Tables compressed by a split table: rows added up by groups, and rows paired one by one.
-use Rattle.std.proofs.Common.{◌≡◌, ℕ, zero, suc, ◌+◌, ◌*◌, ◌/◌, ◌<◌, List, [], ◌∷◌, ◌++◌, map, length, take, drop, set, get_or, replicate, refl, sym, subst, ap, ◌∙◌, arith}
+use Rattle.std.proofs.Common.{◌≡◌, ℕ, zero, suc, ◌+◌, ◌*◌, ◌/◌, ◌^◌, ◌<◌, List, [], ◌∷◌, ◌++◌, map, length, take, drop, set, get_or, replicate, refl, sym, subst, ap, ◌∙◌, arith}
 use Rattle.std.proofs.Math.Seq.{take-append_seam}
 use Rattle.std.proofs.Math.Nat.{mul_assoc, mul-div_cancel, mul-div_cancel_left, zero-div}
 use Rattle.std.proofs.lemmas.List.{ext_get_or, get_or-drop, length-map, length-replicate, length-take-le}
+use Rattle.std.proofs.lemmas.Nat.{pow_pos}
+use Rattle.std.specs.Simd.Lanes.{zip2}
 use Rattle.mlu_ring.specs.Ring.{Ring, RingLaws}
+use Rattle.mlu_ring.specs.Lanes.{IsLaneByLane, logical}
+use Rattle.mlu_ring.specs.Matrices.{row_at}
 use Rattle.mlu_ring.specs.Tables.{pair, front, back}
 use Rattle.mlu_ring.proofs.Folds.{length-back}
 use Rattle.mlu_ring.proofs.Joined.{back-entry}
+use Rattle.mlu_ring.proofs.Logical.{length-logical, logical-replicate}
+use Rattle.mlu_ring.proofs.Tabulated.{length-tabulate, get_or-tabulate}
 use Rattle.mlu_ring.proofs.SumsBelow.{sum_below-same}
 use Rattle.mlu_ring.proofs.Totals.{pair-take}
 use Rattle.mlu_ring.proofs.Univariate.{length-front}
-use Rattle.mlu_kernel.specs.Kernels.{plus_rows}
+use Rattle.mlu_kernel.specs.Kernels.{dots_of_rows, plus_rows}
 use Rattle.mlu_kernel.proofs.PlusRows.{length-plus_rows, plus_rows-append, plus_rows-front}
 use Rattle.mlu_eq.specs.Split.{contents}
 use Rattle.mlu_eq.proofs.Contents.{length-contents, contents-take_more}
-use Rattle.mlu_eq.proofs.Zipped.{zip_zeros}
+use Rattle.mlu_eq.proofs.Lengths.{positive_product}
+use Rattle.mlu_eq.proofs.Zipped.{added_once, zip_zeros}
 
 -- one more place is written
 pub written_more : {A : Type 0} (f : ℕ → A) (ys : List A) (y : ℕ) (x : A) → y < length ys → x ≡ f y → ((k : ℕ) (d : A) → k < y → get_or ys k d ≡ f k) → (k : ℕ) (d : A) → k < y + 1 → get_or (set ys y x) k d ≡ f k
@@ -98,3 +105,32 @@ module _ {B R : Type 0} (ring : Ring R) (laws : RingLaws ring) (embed : B → R)
       ap (λ m. take m (new ++ drop (length new) old)) count
       ∙ take-append_seam new (drop (length new) old)
       ∙ compressed zeros new (whole ∙ zeroed) made
+
+-- the dots of all rows with packed weights
+pub back_of_row_dots : {P B R : Type 0} (ring : Ring R) (lanes : P → List R) (f : B → R) (n l : ℕ) (ws : List P) (entries : List B) (out new : List R) → RingLaws ring → ((p : P) → length (lanes p) ≡ n) → n ≡ 2 ^ l → 0 < length ws
+    → length entries ≡ length out * (length ws * n) → new ≡ dots_of_rows ring (logical lanes ws) (map f entries) (length out) → new ≡ back ring (logical lanes ws) (map f entries)
+back_of_row_dots ring lanes f n l ws entries out new laws long width some size made =
+    let table = logical lanes ws in
+    let e = map f entries in
+    let m = length out in
+    let many = length-logical lanes n long ws in
+    let wide = subst (λ k. 0 < k) (sym width) (pow_pos l) in
+    made
+    ∙ back_of_dots ring laws table e (dots_of_rows ring table e m) m
+    (subst (λ k. 0 < k) (sym many) (positive_product (length ws) n some wide))
+    (length-map entries f ∙ size ∙ ap (λ k. m * k) (sym many))
+    (length-tabulate m (λ y. pair ring table (row_at (length table) e y)))
+    (λ k d h. get_or-tabulate m (λ y. pair ring table (row_at (length table) e y)) k d h)
+
+-- the table, added once to packed zeros
+pub joined_halves : {P R : Type 0} (ring : Ring R) (packed : Ring P) (lanes : P → List R) (n : ℕ) (eq0 : List R) (ws joined new : List P) (s : R) → RingLaws ring → IsLaneByLane n lanes packed ring → ((p : P) → length (lanes p) ≡ n)
+    → s ≡ ring.one → joined ≡ replicate (length eq0 * length ws) packed.zero
+    → logical lanes new ≡ zip2 ring.sum (logical lanes joined) (map (ring.product s) (contents ring eq0 (logical lanes ws))) → logical lanes new ≡ contents ring eq0 (logical lanes ws)
+joined_halves ring packed lanes n eq0 ws joined new s laws each long one zeros made =
+    let w = logical lanes ws in
+    let table = contents ring eq0 w in
+    let many = length-contents ring eq0 w ∙ ap (λ k. length eq0 * k) (length-logical lanes n long ws) in
+    let empty = ap (logical lanes) zeros
+    ∙ logical-replicate lanes n (length eq0 * length ws) packed.zero ring.zero each.zero
+    ∙ ap (λ k. replicate k ring.zero) (mul_assoc (length eq0) (length ws) n ∙ sym many) in
+    made ∙ added_once ring laws (length table) (logical lanes joined) table s refl empty one

@@ -1,10 +1,12 @@
 -- The number of weights of a half table, each lane counted.
-use Rattle.std.proofs.Common.{◌≡◌, ℕ, zero, suc, ◌+◌, ◌-◌, ◌*◌, ◌/◌, ◌^◌, ◌<◌, ◌≤◌, ap, sym, ◌∙◌, subst, pow-add, arith}
+use Rattle.std.proofs.Common.{◌≡◌, ℕ, zero, suc, ◌+◌, ◌-◌, ◌*◌, ◌/◌, ◌^◌, ◌<◌, ◌≤◌, List, length, ap, sym, ◌∙◌, subst, pow-add, arith}
 use Rattle.std.specs.Prelude.{IsTrue}
 use Rattle.std.specs.Int.{is_power_of_two}
 use Rattle.std.specs.Int.Count.{count_trailing_zeros}
 use Rattle.std.proofs.Math.Nat.{mul_assoc, mul-div_cancel, mul-le-mul_right}
 use Rattle.std.proofs.lemmas.Nat.{pow_pos}
+use Rattle.mlu_ring.specs.Lanes.{logical}
+use Rattle.mlu_ring.proofs.Logical.{length-logical}
 use Rattle.mlu_ring.proofs.PowersOfTwo.{is_power_of_two-power, power_of_test}
 
 -- 2 ^ k elements of 2 ^ l lanes each
@@ -48,3 +50,11 @@ last_place zero w some wide = absurd (omega arith)
 pub some_values : (n w k : ℕ) → k + 1 ≡ n * w → 0 < n
 some_values zero w k h = absurd (omega (arith, h))
 some_values (suc n) w k h = omega arith
+
+-- a row for each lane of n packed weights is a run of w rows for each of them
+pub rows_of_lanes : (all rows n w places : ℕ) → rows ≡ all * places → all ≡ n * w → rows ≡ n * (w * places)
+rows_of_lanes all rows n w places is lanes = is ∙ ap (λ k. k * places) lanes ∙ mul_assoc n w places
+
+-- packed values of n lanes each
+pub length_of_lanes : {P R : Type 0} (lanes : P → List R) (n : ℕ) (ps : List P) → ((p : P) → length (lanes p) ≡ n) → length (logical lanes ps) ≡ length ps * n
+length_of_lanes lanes n ps long = length-logical lanes n long ps

@@ -23,9 +23,9 @@ use Rattle.mlu_eq.proofs.Shifted.{plus_rows-take, plus_rows-zero, plus_rows-shif
 use Rattle.mlu_ring.proofs.Zips.{zip2-append}
 
 -- values that are their own only lanes
-pub logical-itself : {R : Type 0} (xs : List R) → logical (λ x. x ∷ []) xs ≡ xs
-logical-itself [] = refl
-logical-itself (x ∷ xs) = ap (λ ys. x ∷ ys) (logical-itself xs)
+pub own_lanes : {R : Type 0} (xs : List R) → logical (λ x. x ∷ []) xs ≡ xs
+own_lanes [] = refl
+own_lanes (x ∷ xs) = ap (λ ys. x ∷ ys) (own_lanes xs)
 
 module _ {A : Type 0} where
   take-less : (b m : ℕ) (xs : List A) → b ≤ m → take b (take m xs) ≡ take b xs
@@ -204,16 +204,8 @@ module _ {R : Type 0} (ring : Ring R) (laws : RingLaws ring) where
           let more : m * n ≤ (i + 1) * l * n = mul-le-mul_right n past in
           take_past ((i * l + run) * n) ((i + 1) * l * n) v (omega (arith, size, all)) (omega (arith, size, more))
 
-  -- a run of the first half, as a slice of it
-  pub run-added : (eq0 w half old new e : List R) (start run : ℕ) → half ≡ take (start + run - start) (drop start eq0) → new ≡ plus_rows ring old (contents ring half w) e
-      → new ≡ plus_rows ring old (run_of (length w) start run (contents ring eq0 w)) e
-  run-added eq0 w half old new e start run at_half made =
-      made
-      ∙ ap (λ h. plus_rows ring old (contents ring h w) e) (sliced start run eq0 half at_half)
-      ∙ ap (λ v. plus_rows ring old v e) (sym (contents-run ring eq0 w start run))
-
-  -- .. and with the moved weights
-  pub shifted-run_added : (eq0 w half old between new e : List R) (start run : ℕ) → 0 < run → 0 < length w → start + run ≤ length eq0
+  -- a run of the first half, as a slice of it, with the moved weights
+  shifted-run_added : (eq0 w half old between new e : List R) (start run : ℕ) → 0 < run → 0 < length w → start + run ≤ length eq0
       → half ≡ take (start + run - start) (drop start eq0)
       → between ≡ plus_rows ring old (row_weight ring (length w) start (shifted ring (contents ring eq0 w)) ∷ []) e
       → new ≡ plus_rows ring between (shifted ring (contents ring half w)) e
@@ -225,8 +217,8 @@ module _ {R : Type 0} (ring : Ring R) (laws : RingLaws ring) where
       ∙ ap (λ v. plus_rows ring old v e) (sym (shifted-run eq0 w start run some wide h))
 
   -- places that are their own only lanes
-  pub by_only_lanes : (old v e new : List R) → new ≡ plus_rows ring old v e → logical (λ x. x ∷ []) new ≡ plus_rows ring (logical (λ x. x ∷ []) old) v e
-  by_only_lanes old v e new made = logical-itself new ∙ made ∙ ap (λ o. plus_rows ring o v e) (sym (logical-itself old))
+  by_only_lanes : (old v e new : List R) → new ≡ plus_rows ring old v e → logical (λ x. x ∷ []) new ≡ plus_rows ring (logical (λ x. x ∷ []) old) v e
+  by_only_lanes old v e new made = own_lanes new ∙ made ∙ ap (λ o. plus_rows ring o v e) (sym (own_lanes old))
 
   -- before the first run there is none
   pub plus_rows-no_border : (old e w : List R) (n start : ℕ) → start ≡ 0 → old ≡ plus_rows ring old (row_weight ring n start (shifted ring w) ∷ []) e
@@ -242,11 +234,23 @@ module _ {R : Type 0} (ring : Ring R) (laws : RingLaws ring) where
       ∙ ap (plus_rows ring old (y ∷ [])) (at_first ∙ ap (λ k. take k e) one)
       ∙ plus_rows-take ring laws old (y ∷ []) e (length old) refl
 
--- the rows of a run that is sliced
-pub run-rows : {A : Type 0} (start run m r : ℕ) (xs ys : List A) → ys ≡ take (start + run - start) (drop start xs) → start + run ≤ length xs → m ≡ run * r → m ≡ length ys * r
-run-rows start run m r xs ys is h rows =
+-- the table of a slice of the first half is a run of the whole table
+pub run_of_slice : {R : Type 0} (ring : Ring R) (eq0 w : List R) (start run : ℕ) → contents ring (take (start + run - start) (drop start eq0)) w ≡ run_of (length w) start run (contents ring eq0 w)
+run_of_slice ring eq0 w start run = ap (λ h. contents ring h w) (sliced start run eq0 (take (start + run - start) (drop start eq0)) refl) ∙ sym (contents-run ring eq0 w start run)
+
+pub length_of_slice : {A : Type 0} (start run : ℕ) (xs : List A) → start + run ≤ length xs → length (take (start + run - start) (drop start xs)) ≡ run
+length_of_slice start run xs h =
     let left : run ≤ length (drop start xs) = omega (arith, length-drop start xs, h) in
-    rows ∙ ap (λ k. k * r) (sym (ap length (sliced start run xs ys is) ∙ length-take-le run (drop start xs) left))
+    ap length (sliced start run xs (take (start + run - start) (drop start xs)) refl) ∙ length-take-le run (drop start xs) left
+
+-- a run of the moved table, after the weight before it
+pub shifted_run : {R : Type 0} (ring : Ring R) (eq0 w old between new e : List R) (start run : ℕ) → RingLaws ring → 0 < run → 0 < length w → start + run ≤ length eq0
+    → between ≡ plus_rows ring old (row_weight ring (length w) start (shifted ring (contents ring eq0 w)) ∷ []) e
+    → new ≡ plus_rows ring between (shifted ring (contents ring (take (start + run - start) (drop start eq0)) w)) e
+    → logical (λ x. x ∷ []) new ≡ plus_rows ring (logical (λ x. x ∷ []) old) (run_of (length w) start run (shifted ring (contents ring eq0 w))) e
+shifted_run ring eq0 w old between new e start run laws some wide h first made =
+    by_only_lanes ring laws old (run_of (length w) start run (shifted ring (contents ring eq0 w))) e new
+    (shifted-run_added ring laws eq0 w (take (start + run - start) (drop start eq0)) old between new e start run some wide h refl first made)
 
 -- where a run starts there is an entry
 pub run-starts : (count l i : ℕ) → 0 < l → i < div_ceil count l → i * l < count
@@ -333,10 +337,6 @@ pub first_row : (run n o m : ℕ) → 0 < run → 0 < n → m ≡ run * (n * (o 
 first_row zero n o m h q is = absurd (omega arith)
 first_row (suc run) zero o m h q is = absurd (omega arith)
 first_row (suc run) (suc n) o m h q is = omega (arith, is)
-
--- rows whose places have one lane each
-pub one_lane_rows : (run n o : ℕ) → run * (n * (o * 1)) ≡ run * (n * o)
-one_lane_rows run n o = omega arith
 
 -- the length of a run of something is not 0
 pub run-length-some : (count parts : ℕ) → 0 < parts → 0 < count → 0 < div_ceil count parts

@@ -129,6 +129,7 @@ impl<F: Field, EF: ExtensionField<F>> EqMaybePacked<F, EF> {
 
     /// The weights in the form that they have.
     #[inline]
+    #[tactic(auto, using(crate::proofs::Lengths::length_of_lanes))]
     pub(crate) fn weights(&self) -> Weights<'_, F, EF>
         ensures { AreWeightsOf EF.ExtensionPacking.ext_lanes F.Packing.WIDTH self.now result }
     {
@@ -209,6 +210,7 @@ fn lane_images<F: Field, EF: ExtensionField<F>, R: MapFrom<EF>>(
 ) -> Result<Vec<R>, AllocError>
     ensures images { IfOk result (λ images. images.items ≡ map R.image (logical EF.ExtensionPacking.ext_lanes packed.now)) }
     ensures exact { IfOk result (λ images. vec_capacity images ≡ length packed.now * F.Packing.WIDTH) }
+    ensures power { IsTrue (is_power_of_two (length packed.now)) → IfOk result (λ images. IsTrue (is_power_of_two (length images.items))) }
 {
     let lanes = packed
         .len()

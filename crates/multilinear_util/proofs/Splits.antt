@@ -14,7 +14,7 @@ use Rattle.mlu_ring.specs.Tables.{weights, pair, value}
 use Rattle.mlu_eq.specs.Half.{Half}
 use Rattle.mlu_eq.specs.Split.{contents}
 use Rattle.mlu_eq.proofs.Contents.{length-contents, contents-images, contents-weights}
-use Rattle.mlu_eq.proofs.Runs.{logical-itself, run-length-some}
+use Rattle.mlu_eq.proofs.Runs.{own_lanes, run-length-some}
 use Rattle.mlu_point.proofs.Equality.{length-weights}
 use Rattle.mlu_ring.proofs.Rings.{map-one}
 use Rattle.multilinear_util.specs.Split.{Split, split_entries}
@@ -52,7 +52,7 @@ size_left e c k n sized size le = one_lane_left e c (2 ^ (n - k)) (size_of-power
 
 -- where each value is its own lane, the lanes are the values
 pub logical_of_scalars : {R : Type 0} (xs : List R) → logical (λ x. x ∷ []) xs ≡ xs
-logical_of_scalars xs = logical-itself xs
+logical_of_scalars xs = own_lanes xs
 
 -- a table has an entry for each weight of the one half and each of the other
 pub size_of_contents : {R : Type 0} (ring : Ring R) (eq0 w : List R) → length (contents ring eq0 w) ≡ length eq0 * length w

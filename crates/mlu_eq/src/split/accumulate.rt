@@ -38,6 +38,7 @@ pub fn accumulate_into<F: Field, EF: ExtensionField<F>>(
 
 /// The same with packed places, which stand for their lanes. Asks for packed weights, and for
 /// as many lanes as the split table has entries.
+#[tactic(auto, using(crate::proofs::Lengths::cancel_width))]
 pub fn accumulate_into_packed<F: Field, EF: ExtensionField<F>>(
     eq0: &[EF],
     eq1: &EqMaybePacked<F, EF>,

@@ -4,7 +4,7 @@ ghost use Rattle.mlu_ring.specs.Fours.{in_order};
 ghost use Rattle.mlu_ring.specs.Lanes.{logical};
 ghost use Rattle.mlu_ring.specs.Tables.{pair};
 ghost use Rattle.mlu_kernel.specs.Kernels.{double_sum, HasDot};
-ghost use Rattle.mlu_eq.specs.Split.{contents, packed_double_sum};
+ghost use Rattle.mlu_eq.specs.Split.{contents};
 
 use crate::half::{EqMaybePacked, Weights};
 use mlu_kernel::one_row::lane_sum;
@@ -57,6 +57,7 @@ pub fn dot_ext<F: Field, EF: ExtensionField<F>>(
 
 /// The sum of the lanes of the entries, each times its weight. Asks for packed weights, and
 /// for as many lanes as the split table has entries.
+#[tactic(auto, using(crate::proofs::Lengths::cancel_width))]
 pub fn dot_packed<F: Field, EF: ExtensionField<F>>(
     eq0: &[EF],
     eq1: &EqMaybePacked<F, EF>,
@@ -120,7 +121,8 @@ fn dot_of_packed_rows<F: Field, EF: ExtensionField<F>>(
     entries: &[EF::ExtensionPacking],
 ) -> EF
     requires { length entries.now ≡ length eq0.now * length weights.now }
-    ensures { result ≡ packed_double_sum EF.ring EF.ExtensionPacking.ext_lanes eq0.now weights.now entries.now }
+    ensures { result ≡ pair EF.ring (contents EF.ring eq0.now (logical EF.ExtensionPacking.ext_lanes weights.now))
+        (logical EF.ExtensionPacking.ext_lanes entries.now) }
 {
     let mut sum = EF::ZERO;
     for j in 0..eq0.len() {

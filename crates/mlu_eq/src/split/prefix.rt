@@ -114,6 +114,7 @@ pub fn compress_prefix_to_packed_into<F: Field, EF: ExtensionField<F>>(
 }
 
 /// Adds a row for each weight, times the weight and `factor`.
+#[tactic(auto, using(crate::proofs::Lengths::rows_of_lanes))]
 fn add_rows<F: Field, EF: ExtensionField<F>>(
     eq1: &EqMaybePacked<F, EF>,
     factor: EF,
@@ -132,6 +133,7 @@ fn add_rows<F: Field, EF: ExtensionField<F>>(
 }
 
 /// Adds a row for each weight, times the weight and `factor`, to a packed output.
+#[tactic(auto, using(crate::proofs::Lengths::rows_of_lanes))]
 fn add_rows_to_packed<F: Field, EF: ExtensionField<F>>(
     eq1: &EqMaybePacked<F, EF>,
     factor: EF,

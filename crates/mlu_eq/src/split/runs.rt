@@ -60,6 +60,7 @@ impl<F: Field, EF: ExtensionField<F>> PrefixCompression<F, EF, EF> for Plain {
     ghost width = { 1 };
 
     #[inline]
+    #[tactic(auto, using(crate::proofs::Runs::run_of_slice, crate::proofs::Runs::length_of_slice, crate::proofs::Runs::own_lanes))]
     fn add_run(
         eq0: &[EF],
         eq1: &EqMaybePacked<F, EF>,
@@ -89,6 +90,7 @@ impl<F: Field, EF: ExtensionField<F>> PrefixCompression<F, EF, EF::ExtensionPack
     ghost width = { F.Packing.WIDTH };
 
     #[inline]
+    #[tactic(auto, using(crate::proofs::Runs::run_of_slice, crate::proofs::Runs::length_of_slice))]
     fn add_run(
         eq0: &[EF],
         eq1: &EqMaybePacked<F, EF>,
@@ -121,6 +123,7 @@ impl<F: Field, EF: ExtensionField<F>> PrefixCompression<F, EF, EF> for Shifted {
     ghost width = { 1 };
 
     #[inline]
+    #[tactic(auto, using(crate::proofs::Runs::first_row, crate::proofs::Runs::length_of_slice, crate::proofs::Runs::shifted_run))]
     fn add_run(
         eq0: &[EF],
         eq1: &EqMaybePacked<F, EF>,

@@ -51,6 +51,7 @@ impl<F: Field, EF: ExtensionField<F>> SuffixCompression<F, EF> for Plain {
     }
 
     #[inline]
+    #[tactic(auto, using(crate::proofs::Compressions::back_of_row_dots))]
     fn write_row_dots(weights: &[EF::ExtensionPacking], out: &mut [EF], entries: &[F]) {
         row_dots::<F, EF>(out, weights, entries);
     }
@@ -161,6 +162,7 @@ fn compress_by_joined<F: Field, EF: ExtensionField<F>, S: SuffixCompression<F, E
 }
 
 /// Writes the products of both halves over zeros, in the order of the table.
+#[tactic(auto, using(crate::proofs::Compressions::joined_halves))]
 fn join_halves<F: Field, EF: ExtensionField<F>>(
     eq0: &[EF],
     joined: &mut [EF::ExtensionPacking],

@@ -1,8 +1,9 @@
-use Rattle.std.proofs.Common.{◌≡◌, ◌≤◌, ◌+◌, ◌*◌, ◌++◌, ◌∙◌, length, map, take, ap, sym, arith}
-use Rattle.std.proofs.lemmas.List.{map-append}
+use Rattle.std.proofs.Common.{◌≡◌, ◌≤◌, ◌+◌, ◌*◌, ◌^◌, ◌<◌, ◌++◌, ◌∙◌, length, map, take, ap, sym, arith, rules}
+use Rattle.std.proofs.lemmas.List.{length-map, map-append, take_all}
 use Rattle.std.proofs.Math.Nat.{mul-le-mul_right}
 use Rattle.mlu_ring.specs.Lanes.{logical}
-use Rattle.mlu_ring.proofs.Logical.{logical-take_more}
+use Rattle.mlu_ring.proofs.Logical.{length-logical, logical-take_more}
+use Rattle.mlu_eq.proofs.Lengths.{power_of_lanes}
 use Rattle.mlu_eq.proofs.half.lane_images.Goals as goal
 
 pub push_lane_images-requires : goal.push_lane_images-requires
@@ -32,3 +33,16 @@ loop-value-preserved g c =
       len = c.push_lane_images.ensures.len ∙ ap (λ n. n + width) c.loop-value.invariant.len ∙ next;
       capacity = c.push_lane_images.ensures.capacity ∙ c.loop-value.invariant.capacity;
     }
+
+pub returns-clause-power : goal.returns-clause-power
+returns-clause-power g c = λ test.
+    let image = g.R.MapFrom.image in
+    let width = g.F.Packing.PackedValue.WIDTH in
+    let lanes = g.EF.ExtensionPacking.PackedFieldExtension.ext_lanes in
+    let packed = c.args.packed.now in
+    let fits : length packed < 2 ^ 64 = search rules in
+    power_of_lanes (length packed) width g.F.Packing.PackedValue.LOG_WIDTH (length c.loop-value.images.items) fits test g.met.F.Packing.PackedValue.width_is
+    (ap length c.loop-value.invariant.items
+    ∙ ap (λ ps. length (map image (logical lanes ps))) (take_all c.loop-value.value-index packed c.loop-value-test.false)
+    ∙ length-map (logical lanes packed) image
+    ∙ length-logical lanes width g.met.EF.ExtensionPacking.PackedFieldExtension.lanes_are.length-parts packed)
