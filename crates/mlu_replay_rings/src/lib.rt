@@ -10,9 +10,9 @@ ghost use Rattle.std.specs.Prelude.{◌<◌};
 use mlu_ext::{ProductAlgebra, QuarticExtension};
 use mlu_lanes::{BabyBear, LaneWidth, Lanes, WrappingU64};
 use mlu_replay_calls::element::Element;
-use mlu_replay_lines::fault::{Fault, Reason};
 use mlu_replay_calls::ops::{mixed, over_base, over_itself};
 use mlu_replay_calls::words::Words;
+use mlu_replay_lines::fault::{Fault, Reason};
 use mlu_ring::ExtensionField;
 use std::alloc::Global;
 
