@@ -7,7 +7,7 @@ use Rattle.mlu_ring.specs.Lanes.{logical}
 use Rattle.mlu_ring.specs.Ring.{Ring}
 use Rattle.mlu_ring.specs.Successor.{shifted}
 use Rattle.mlu_ring.specs.Sums.{plus_scaled}
-use Rattle.mlu_ring.specs.Tables.{back}
+use Rattle.mlu_ring.specs.Tables.{back, pair}
 use Rattle.mlu_kernel.specs.Kernels.{plus_rows}
 use Rattle.mlu_kernel.specs.declared.small.TheConstants.{SMALL_BYTES}
 
@@ -54,6 +54,10 @@ plus_leading_rows ring embed lanes width old factor weights rows =
 -- entry y is the dot of row y of the entries with the table of eq0 and the lanes of packed weights, after it was moved
 abbrev pub packed_back : {Q V : Type 0} → Ring V → (Q → List V) → (List V → List V) → List V → List Q → List V → List V
 packed_back ring lanes moved eq0 weights entries = back ring (moved (contents ring eq0 (logical lanes weights))) entries
+
+-- the sum of the lanes of packed entries, each times its entry of the table of eq0 and the lanes of packed weights
+abbrev pub packed_pair : {Q V : Type 0} → Ring V → (Q → List V) → List V → List Q → List Q → V
+packed_pair ring lanes eq0 weights entries = pair ring (contents ring eq0 (logical lanes weights)) (logical lanes entries)
 
 -- the entries, each times the scale, are added to the lanes of the packed places, joined in order
 abbrev pub AddsScaled : {Q V : Type 0} → Ring V → (Q → List V) → V → List V → List Q → List Q → Type 0

@@ -3,9 +3,8 @@ ghost use Rattle.std.specs.Prelude.{◌≡◌, ◌≢◌, ◌+◌, ◌<◌, ◌�
 ghost use Rattle.std.specs.Io.KnownBytes.{Appends, IsAtEnd};
 ghost use Rattle.std.specs.IoError.{error_kind};
 ghost use Rattle.std.specs.Io.BufRead.{DropsThrough, first_piece};
-ghost use Rattle.mlu_replay_lines.specs.Counts.{Grows, GrowsTo, IsNoCase, MoreDiffer, MoreUnknown, TellsDiffering, TellsUnknown, case_line, count_line, disagreeing, line_count, unknown_line};
+ghost use Rattle.mlu_replay_lines.specs.Counts.{Grows, GrowsTo, IsNoCase, MoreDiffer, MoreUnknown, TellsDiffering, TellsUnknown, case_line, count_line, disagreeing, first_word, line_count, unknown_line};
 ghost use Rattle.mlu_replay_lines.specs.Faults.{reason_text};
-ghost use Rattle.mlu_replay_lines.specs.Counts.{first_word};
 
 use crate::fault::{Fault, Reason};
 use crate::stop::Stop;
@@ -51,7 +50,10 @@ pub fn replay_streams<A: Answers, R: Read + Drop, W: Write + Drop>(
     alloc: Global,
     input: R,
     out: W,
-) -> Result<Tally, Stop> {
+) -> Result<Tally, Stop>
+    ensures lines { IfOk result (λ tally. IfSome (R.remaining input) (λ bytes. tally.compared + tally.unknown ≡ line_count bytes)) }
+    ensures within { IfOk result (λ tally. tally.differ ≤ tally.compared) }
+{
     let mut input = BufReader::new(alloc, input).map_err(|_| Stop::Memory)?;
     let mut out = BufWriter::new(alloc, out).map_err(|_| Stop::Memory)?;
     replay::<A, _, _>(alloc, &mut input, &mut out)

@@ -1,5 +1,5 @@
 -- Lengths of tables that are made of others: halves, groups of lanes, lanes.
-use Rattle.std.proofs.Common.{◌≡◌, ℕ, zero, suc, ◌+◌, ◌-◌, ◌*◌, ◌/◌, ◌%◌, ◌^◌, ◌<◌, ◌≤◌, List, length, map, take, arith, ap, ◌∙◌, sym, subst, pow-add}
+use Rattle.std.proofs.Common.{◌≡◌, ℕ, zero, suc, ◌+◌, ◌-◌, ◌*◌, ◌/◌, ◌%◌, ◌^◌, ◌<◌, ◌≤◌, List, length, map, arith, ap, ◌∙◌, sym, subst, pow-add}
 use Rattle.std.specs.Prelude.{IsTrue}
 use Rattle.std.specs.Int.{is_power_of_two}
 use Rattle.std.specs.Int.Count.{count_trailing_zeros}
@@ -7,12 +7,10 @@ use Rattle.std.proofs.lemmas.Nat.{pow_pos, div-mul-add}
 use Rattle.std.proofs.Math.Nat.{mul-mod_left}
 use Rattle.std.proofs.Math.Pow.{pow-lt}
 use Rattle.std.proofs.lemmas.List.{length-map}
-use Rattle.mlu_ring.specs.Lanes.{logical}
 use Rattle.mlu_ring.specs.Ring.{Ring}
 use Rattle.mlu_ring.specs.Tables.{line, front, back}
 use Rattle.mlu_ring.proofs.Folds.{length-back}
 use Rattle.mlu_ring.proofs.Univariate.{length-front}
-use Rattle.mlu_ring.proofs.Logical.{length-logical}
 use Rattle.mlu_ring.proofs.PowersOfTwo.{is_power_of_two-power, is_power_of_two-half, power_of_test, exponent_fits, half_power}
 
 pub exponents : (k l : ℕ) → 2 ^ l ≤ 2 ^ k → l ≤ k
@@ -49,12 +47,10 @@ pub zeros_of_power : (n : ℕ) → n < 2 ^ 64 → IsTrue (is_power_of_two n) →
 zeros_of_power n fits test = exponent_fits _ (subst (λ m. m < 2 ^ 64) (power_of_test n fits test) fits)
 
 -- what std's test says of a number that is a power of two
-pub power_of_size : (n k : ℕ) → n ≡ 2 ^ k → IsTrue (is_power_of_two n)
-power_of_size n k is = is_power_of_two-power n k is
+pub ruleset power_of_size = (is_power_of_two-power)
 
 -- the first half of the values of a table with a variable
-pub power_of_first_half : {X : Type 0} (xs : List X) (n : ℕ) → n ≡ length xs → n < 2 ^ 64 → IsTrue (is_power_of_two (length xs)) → 1 < length xs → IsTrue (is_power_of_two (length (take (n / 2) xs)))
-power_of_first_half xs n is fits test more = is_power_of_two-half xs n is fits test more
+pub ruleset power_of_first_half = (is_power_of_two-half)
 
 -- half as many values as in a table with a variable
 pub power_of_half : (n m : ℕ) → n < 2 ^ 64 → IsTrue (is_power_of_two n) → 1 < n → m ≡ n / 2 → IsTrue (is_power_of_two m)
@@ -94,7 +90,3 @@ width_within_half n w l fits test width less =
 pub power_of_lanes : (n w l m : ℕ) → n < 2 ^ 64 → IsTrue (is_power_of_two n) → w ≡ 2 ^ l → m ≡ n * w → IsTrue (is_power_of_two m)
 power_of_lanes n w l m fits test width is =
     is_power_of_two-power m (count_trailing_zeros 64 n + l) (is ∙ ap (λ x. x * w) (power_of_test n fits test) ∙ ap (λ x. 2 ^ count_trailing_zeros 64 n * x) width ∙ sym (pow-add 2 (count_trailing_zeros 64 n) l))
-
--- as many scalars as the packed values have lanes
-pub length_of_lanes : {P V : Type 0} (lanes : P → List V) (w : ℕ) → ((p : P) → length (lanes p) ≡ w) → (ps : List P) → length (logical lanes ps) ≡ length ps * w
-length_of_lanes lanes w long ps = length-logical lanes w long ps

@@ -5,7 +5,8 @@ use Rattle.std.specs.Int.{is_power_of_two}
 use Rattle.mlu_ring.specs.Lanes.{logical}
 use Rattle.mlu_ring.proofs.Logical.{length-logical}
 use Rattle.mlu_ring.proofs.PowersOfTwo.{exponent_fits}
-use Rattle.multilinear_util.proofs.Lengths.{power_of_lanes, power-mod-width, power_of_size, length_of_lanes}
+use Rattle.mlu_eq.proofs.Lengths.{length_of_lanes}
+use Rattle.multilinear_util.proofs.Lengths.{power_of_lanes, power-mod-width, power_of_size}
 
 module _ {P V : Type 0} (lanes : P → List V) (n : ℕ) where
   -- as many lanes as the packed values have
@@ -16,21 +17,16 @@ module _ {P V : Type 0} (lanes : P → List V) (n : ℕ) where
 pub exponent_of_width : (w l : ℕ) → w ≡ 2 ^ l → w < 2 ^ 64 → l < 64
 exponent_of_width w l width fits = exponent_fits l (subst (λ m. m < 2 ^ 64) width fits)
 
--- the variables of the packed values and those of the lanes add up
-pub power_of_sum : (k l : ℕ) → 2 ^ (k + l) ≡ 2 ^ k * 2 ^ l
-power_of_sum k l = pow-add 2 k l
-
 -- where the packed values are a power of two, so are their lanes
 pub power_of_logical : {P V : Type 0} (lanes : P → List V) (w l : ℕ) → ((p : P) → length (lanes p) ≡ w) → w ≡ 2 ^ l → (ps : List P) → length ps < 2 ^ 64 → IsTrue (is_power_of_two (length ps)) → IsTrue (is_power_of_two (length (logical lanes ps)))
 power_of_logical lanes w l long width ps fits test = power_of_lanes (length ps) w l (length (logical lanes ps)) fits test width (length-logical lanes w long ps)
 
 -- a table with room for a packing is a whole number of packings
-pub whole_groups : (n w l : ℕ) → n < 2 ^ 64 → IsTrue (is_power_of_two n) → w ≡ 2 ^ l → w ≤ n → n % w ≡ 0
-whole_groups n w l fits test width wide = power-mod-width n w l fits test width wide
+pub ruleset whole_groups = (power-mod-width)
 
 -- as many values in a view of the unpacked lanes as the packed values have
 pub size_of_unpacked : {P V : Type 0} (lanes : P → List V) (w n : ℕ) (ps : List P) (es vs : List V) → vs ≡ es → es ≡ logical lanes ps → length ps * w ≡ n → ((p : P) → length (lanes p) ≡ w) → length vs ≡ n
 size_of_unpacked lanes w n ps es vs view is count long = ap length (view ∙ is) ∙ length-logical lanes w long ps ∙ count
 
 -- the number of variables of packed values, and of their lanes
-pub ruleset variables_of_lanes = (power_of_size, length_of_lanes, exponent_of_width, power_of_sum)
+pub ruleset variables_of_lanes = (power_of_size, length_of_lanes, exponent_of_width, pow-add)

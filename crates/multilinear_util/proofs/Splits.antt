@@ -1,5 +1,5 @@
 -- Split tables: what their halves stand for, and the sizes of what they are paired with.
-use Rattle.std.proofs.Common.{◌≡◌, ℕ, ◌-◌, ◌*◌, ◌+◌, ◌/◌, ◌^◌, ◌<◌, ◌≤◌, List, [], ◌∷◌, ◌++◌, map, length, replicate, refl, sym, ap, ◌∙◌, subst, arith, pow-add}
+use Rattle.std.proofs.Common.{◌≡◌, ℕ, ◌-◌, ◌*◌, ◌+◌, ◌/◌, ◌^◌, ◌<◌, ◌≤◌, List, ◌++◌, map, length, refl, sym, ap, ◌∙◌, subst, arith, pow-add}
 use Rattle.std.proofs.lemmas.List.{length-map, length-replicate}
 use Rattle.std.proofs.lemmas.Nat.{pow_pos}
 use Rattle.std.proofs.Math.Nat.{mul_comm, mul_assoc}
@@ -9,7 +9,6 @@ use Rattle.std.specs.Int.{is_power_of_two, div_ceil}
 use Rattle.std.specs.Int.Count.{count_trailing_zeros}
 use Rattle.mlu_ring.proofs.PowersOfTwo.{power_of_test, exponent_fits}
 use Rattle.mlu_ring.specs.Ring.{Ring, RingLaws, IsRingMap}
-use Rattle.mlu_ring.specs.Lanes.{logical}
 use Rattle.mlu_ring.specs.Tables.{weights, pair, value}
 use Rattle.mlu_eq.specs.Half.{Half}
 use Rattle.mlu_eq.specs.Split.{contents}
@@ -40,8 +39,7 @@ pub quotient_left : (k n : ℕ) → 2 ^ k ≤ 2 ^ n → 2 ^ (n - k) * 2 ^ k ≡ 
 quotient_left k n le = sym (quotient_of_powers n k le)
 
 -- as many zeros as were made
-pub length_of_replicate : {R : Type 0} (n : ℕ) (zero : R) → length (replicate n zero) ≡ n
-length_of_replicate n zero = length-replicate n zero
+pub ruleset length_of_replicate = (length-replicate)
 
 pub one_lane_left : (e c s : ℕ) → e ≡ c * s → e ≡ c * (s * 1)
 one_lane_left e c s is = is ∙ omega arith
@@ -50,13 +48,8 @@ one_lane_left e c s is = is ∙ omega arith
 pub size_left : (e c k n : ℕ) → e ≡ 2 ^ n → c ≡ 2 ^ k → c ≤ e → e ≡ c * (2 ^ (n - k) * 1)
 size_left e c k n sized size le = one_lane_left e c (2 ^ (n - k)) (size_of-powers c e k n size sized (fewer c e k n size sized le))
 
--- where each value is its own lane, the lanes are the values
-pub logical_of_scalars : {R : Type 0} (xs : List R) → logical (λ x. x ∷ []) xs ≡ xs
-logical_of_scalars xs = own_lanes xs
-
 -- a table has an entry for each weight of the one half and each of the other
-pub size_of_contents : {R : Type 0} (ring : Ring R) (eq0 w : List R) → length (contents ring eq0 w) ≡ length eq0 * length w
-size_of_contents ring eq0 w = length-contents ring eq0 w
+pub ruleset size_of_contents = (length-contents)
 
 -- where each half has a power of two weights, the variables add up
 pub entries_of_powers : {R : Type 0} (ring : Ring R) (eq0 w : List R) (a b : ℕ) → length eq0 ≡ 2 ^ a → length w ≡ 2 ^ b → length (contents ring eq0 w) ≡ 2 ^ (a + b)
@@ -169,7 +162,7 @@ pub left_fits : (n k : ℕ) → n < 64 → 2 ^ (n - k) < 2 ^ 64
 left_fits n k h = grind (arith, pow_mono {i = n - k} {j = 63}, h)
 
 -- what a compression of the prefix in runs asks of the places that it leaves
-pub ruleset prefix_in_runs = (exponent_within, left_fits, some_of_power, size_left, logical_of_scalars)
+pub ruleset prefix_in_runs = (exponent_within, left_fits, some_of_power, size_left, own_lanes)
 
 -- and where these are packed
 pub ruleset packed_prefix_in_runs = (variables_of_rows, lanes_of_row, left_fits, some_of_power, lanes_of_rows)

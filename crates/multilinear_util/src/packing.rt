@@ -1,23 +1,22 @@
 //! Tables of scalars as tables of packed elements, and back.
-ghost use Rattle.std.specs.Prelude.{◌≡◌, ◌*◌, ◌%◌, ◌≤◌, length, IfOk, IsTrue};
-ghost use Rattle.std.specs.Int.{is_power_of_two};
+ghost use Rattle.std.specs.Prelude.{◌≡◌, ◌*◌, ◌%◌, ◌≤◌, length, IfOk};
 ghost use Rattle.mlu_ring.specs.Lanes.{logical};
+ghost use Rattle.multilinear_util.specs.Storage.{IsTable};
 
 use mlu_ring::{
     ExtensionField, Field, Lanewise, PackedFieldExtension, PackedValue, PrimeCharacteristicRing,
 };
 use std::alloc::{AllocError, Global};
 
-/// The packed elements whose lanes, joined in order, are `evals`: a power of two of them, where
-/// there are as many values as a power of two with room for a packing. Asks for whole packings.
+/// The packed elements whose lanes, joined in order, are `evals`: a power of two of them where `evals` is a
+/// power of two of values with room for a packing. Asks for whole packings.
 pub(crate) fn packed<F: Field, EF: ExtensionField<F>>(
     alloc: Global,
     evals: &[EF],
 ) -> Result<Vec<EF::ExtensionPacking>, AllocError>
     requires { length evals.now % F.Packing.WIDTH ≡ 0 }
     ensures lanes { IfOk result (λ elements. logical EF.ExtensionPacking.ext_lanes elements.items ≡ evals.now) }
-    ensures power { IsTrue (is_power_of_two (length evals.now)) → F.Packing.WIDTH ≤ length evals.now
-        → IfOk result (λ elements. IsTrue (is_power_of_two (length elements.items))) }
+    ensures table { IsTable evals.now → F.Packing.WIDTH ≤ length evals.now → IfOk result (λ elements. IsTable elements.items) }
 {
     let width = <F::Packing as PackedValue>::WIDTH;
     let groups = evals.len() / width;

@@ -4,7 +4,7 @@ ghost use Rattle.mlu_ring.specs.Fours.{in_order};
 ghost use Rattle.mlu_ring.specs.Lanes.{logical};
 ghost use Rattle.mlu_ring.specs.Tables.{pair};
 ghost use Rattle.mlu_kernel.specs.Kernels.{double_sum, HasDot};
-ghost use Rattle.mlu_eq.specs.Split.{contents};
+ghost use Rattle.mlu_eq.specs.Split.{contents, packed_pair};
 
 use crate::half::{EqMaybePacked, Weights};
 use mlu_kernel::one_row::lane_sum;
@@ -121,8 +121,7 @@ fn dot_of_packed_rows<F: Field, EF: ExtensionField<F>>(
     entries: &[EF::ExtensionPacking],
 ) -> EF
     requires { length entries.now ≡ length eq0.now * length weights.now }
-    ensures { result ≡ pair EF.ring (contents EF.ring eq0.now (logical EF.ExtensionPacking.ext_lanes weights.now))
-        (logical EF.ExtensionPacking.ext_lanes entries.now) }
+    ensures { result ≡ packed_pair EF.ring EF.ExtensionPacking.ext_lanes eq0.now weights.now entries.now }
 {
     let mut sum = EF::ZERO;
     for j in 0..eq0.len() {

@@ -150,7 +150,7 @@ impl<'a, F: Field, EF: ExtensionField<F>> PolyMaybePackedView<'a, F, EF> {
     }
 
     /// The number of values. Asks that it fits `usize`.
-    #[tactic(auto, using(crate::proofs::Lengths::length_of_lanes))]
+    #[tactic(auto, using(mlu_eq::proofs::Lengths::length_of_lanes))]
     pub fn num_scalar_evals(&self) -> usize
         requires { length (view_scalars EF.ExtensionPacking.ext_lanes self.now) < 2 ^ 64 }
         ensures { result ≡ length (view_scalars EF.ExtensionPacking.ext_lanes self.now) }
@@ -171,7 +171,7 @@ impl<'a, F: Field, EF: ExtensionField<F>> PolyMaybePackedView<'a, F, EF> {
     }
 
     /// Writes the values over `out`. Asks for as many places.
-    #[tactic(auto, using(crate::proofs::Lengths::length_of_lanes))]
+    #[tactic(auto, using(mlu_eq::proofs::Lengths::length_of_lanes))]
     pub fn unpack_into(&self, out: &mut [EF])
         requires { length out.old ≡ length (view_scalars EF.ExtensionPacking.ext_lanes self.now) }
         ensures { out.new ≡ view_scalars EF.ExtensionPacking.ext_lanes self.now }
@@ -190,7 +190,7 @@ impl<'a, F: Field, EF: ExtensionField<F>> PolyMaybePackedView<'a, F, EF> {
     /// # Errors
     /// Where memory is refused, but never with scalars below 9 variables where an element of `F` takes
     /// at most 4 bytes, else never below 10.
-    #[tactic(auto, using(crate::proofs::Lengths::length_of_lanes))]
+    #[tactic(auto, using(mlu_eq::proofs::Lengths::length_of_lanes))]
     pub fn eval(&self, alloc: Global, point: &Point<EF>) -> Result<EF, AllocError>
         requires { length (view_scalars EF.ExtensionPacking.ext_lanes self.now) ≡ 2 ^ length point.now }
         ensures value { IfOk result (λ x. x ≡ value EF.ring (view_scalars EF.ExtensionPacking.ext_lanes self.now) point.now) }

@@ -30,8 +30,8 @@ returns-clause-lanes g c =
     let whole : length evals ≡ length evals / width * width = omega (arith, div-add-mod' (length evals) width, c.requires) in
     c.loop-i.invariant.lanes ∙ ap (λ n. take (n * width) evals) (groups ∙ same) ∙ ap (λ n. take n evals) (sym whole) ∙ take-length evals
 
-pub returns-clause-power : goal.returns-clause-power
-returns-clause-power g c test wide =
+pub returns-clause-table : goal.returns-clause-table
+returns-clause-table g c test wide =
     let width = g.F.Packing.PackedValue.WIDTH in
     let lanes = g.EF.ExtensionPacking.PackedFieldExtension.ext_lanes in
     let long = g.met.EF.ExtensionPacking.PackedFieldExtension.lanes_are.length-parts in
