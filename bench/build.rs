@@ -1,3 +1,5 @@
+//! Links the library that `rt lib` makes of crates/mlu_bench.
+
 fn main() {
     let root = std::env::var("CARGO_MANIFEST_DIR").unwrap();
     let kit = std::env::var("RATTLE_KIT").unwrap_or("/opt/rattle".into());

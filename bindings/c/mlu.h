@@ -71,8 +71,9 @@ uint32_t mlu_equality_weights_lsb(const uint32_t *point, size_t point_len,
                                   uint32_t *out, size_t out_len);
 
 /* The sum of the equality tables of points, each times its scalar, written to out, or added to it
- * where `adds`. Each column of the values is a point, each row a variable. With no points there are
- * no values, and out may be any table. */
+ * where `adds`. The values stand row after row: coordinate 0 of each point, then coordinate 1 of
+ * each, and so on; there is a scalar for each point. With no points there are no values, and out
+ * may be any table. */
 uint32_t mlu_eval_eq_batch(bool adds,
                            const uint32_t *values, size_t values_len,
                            const uint32_t *scalars, size_t scalars_len,

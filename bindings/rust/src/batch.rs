@@ -1,3 +1,5 @@
+//! Batches: the sum of the equality tables of many points.
+
 use crate::error::{Error, answer};
 use crate::sys::mlu_eval_eq_batch;
 use crate::{Ext, Table};

@@ -1,3 +1,5 @@
+//! Why a call gives no answer.
+
 use std::fmt;
 
 /// Why a call has no answer.
@@ -17,7 +19,7 @@ pub enum Error {
 impl fmt::Display for Error {
     fn fmt(&self, f: &mut fmt::Formatter<'_>) -> fmt::Result {
         f.write_str(match self {
-            Error::Length => "the number of entries is no power of two",
+            Error::Length => "an operand has a size that it cannot have",
             Error::Arity => "the sizes of the operands do not fit one another",
             Error::Residue => "a value is no residue modulo 2013265921",
             Error::Memory => "memory was refused",

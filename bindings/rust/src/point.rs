@@ -1,3 +1,5 @@
+//! Points, and their equality tables.
+
 use crate::Ext;
 use crate::error::{Error, answer};
 use crate::sys::call;

@@ -1,3 +1,5 @@
+//! Tables of values: evaluation, folds and compressions.
+
 use crate::error::{Error, answer};
 use crate::sys::{call, mlu_fix_prefix_var_mut, mlu_fix_suffix_var_mut};
 use crate::{Base, Ext, Point};
