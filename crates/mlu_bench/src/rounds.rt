@@ -66,7 +66,7 @@ fn claims<F: Field + Drop, EF: ExtensionField<F> + SelfAlgebra + Drop>(
 }
 
 /// The sum of the products of both tables, in one pass over them.
-fn products<R: PrimeCharacteristicRing>(poly: &[R], weights: &[R]) -> R {
+fn sum_of_products<R: PrimeCharacteristicRing>(poly: &[R], weights: &[R]) -> R {
     let mut sum = R::ZERO;
     for (value, weight) in poly.iter().zip(weights.iter()) {
         sum = sum + *weight * *value;
@@ -115,7 +115,7 @@ fn answer<F: Field + Drop, EF: ExtensionField<F> + SelfAlgebra + Drop>(
         return claims(alloc, tables);
     }
     if call == 1 {
-        return Ok(products(tables.poly.as_slice(), tables.weights.as_slice()));
+        return Ok(sum_of_products(tables.poly.as_slice(), tables.weights.as_slice()));
     }
     let Some(challenge) = tables.challenges.first() else {
         return Err(AllocError);

@@ -42,8 +42,8 @@ fn holds<F: Field + Sample, EF: ExtensionField<F> + Sample>(
     }
 }
 
-// The functions below alone name the rings: each function that does costs seconds for every
-// impl that the rings stand on, and a call of these costs nothing of it.
+// The functions below alone name the rings: a function that does takes seconds to prove for every
+// impl that the rings stand on; one that calls these does not.
 
 /// [`holds`] over the base field.
 fn residues<const W: usize>(alloc: Global, row: Row) -> Result<bool, AllocError>

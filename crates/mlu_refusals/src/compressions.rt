@@ -11,6 +11,7 @@ use multilinear_util::poly::Poly;
 use std::alloc::{AllocError, Global};
 use std::test::Fail;
 
+/// The calls that this file makes.
 #[derive(Clone, Copy)]
 pub enum Call {
     Prefix(Receiver),

@@ -6,8 +6,8 @@
 //! first, the second, .. allocation of each failing, until none is refused any more.
 //!
 //! A call is a function over any rings, which gives whether the answer is right and fails only where
-//! the call is refused; so all that it needs is made before it. `residues` alone names a ring,
-//! since each function that does takes long to prove.
+//! the call is refused; so all that it needs is made before it. The module `residues` alone
+//! names rings, since each function that does takes long to prove.
 #![tactic(auto)]
 
 #[cfg(test)]

@@ -12,6 +12,7 @@ use std::alloc::{AllocError, Global};
 use std::slice;
 use std::test::Fail;
 
+/// The calls that this file makes.
 #[derive(Clone, Copy)]
 pub enum Call {
     EqualityWeightsMsb,

@@ -11,6 +11,7 @@ use rand_pcg::Pcg32;
 use std::alloc::{AllocError, Global};
 use std::test::Fail;
 
+/// The calls that this file makes.
 #[derive(Clone, Copy)]
 pub enum Call {
     Zero,

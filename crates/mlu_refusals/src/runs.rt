@@ -14,6 +14,7 @@ use multilinear_util::split_eq::SplitEq;
 use std::alloc::{AllocError, Global};
 use std::test::Fail;
 
+/// The calls that this file makes.
 #[derive(Clone, Copy)]
 pub enum Call {
     Prefix,

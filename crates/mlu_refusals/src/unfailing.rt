@@ -16,6 +16,7 @@ use rand_pcg::Pcg32;
 use std::alloc::{AllocError, Global};
 use std::slice;
 
+/// The calls that this file makes.
 #[derive(Clone, Copy)]
 pub enum Call {
     EmptyPoint,

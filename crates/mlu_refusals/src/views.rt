@@ -11,6 +11,7 @@ use mlu_test_support::numbers::{are, elements};
 use std::alloc::{AllocError, Global};
 use std::test::Fail;
 
+/// The calls that this file makes.
 #[derive(Clone, Copy)]
 pub enum Call {
     EqualityWeightsMsb,

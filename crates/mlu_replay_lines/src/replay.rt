@@ -15,8 +15,11 @@ use std::str;
 /// How many cases were compared, how many of them differ, and how many lines were no cases.
 #[derive(Clone, Copy, Debug, Default, PartialEq, Eq)]
 pub struct Tally {
+    /// The cases that were answered.
     pub compared: u64,
+    /// Those of them whose answer is another text.
     pub differ: u64,
+    /// The lines that are no cases.
     pub unknown: u64,
 }
 
@@ -63,7 +66,7 @@ pub fn replay_streams<A: Answers, R: Read + Drop, W: Write + Drop>(
 /// count. Where the bytes of the input are known, as many lines are compared or unknown as it has.
 ///
 /// # Errors
-/// Where the input can't be read, or has 2^64 lines; where a write fails, or memory is refused.
+/// Where the input cannot be read, or has 2^64 lines; where a write fails, or memory is refused.
 pub fn replay<A: Answers, R: BufRead, W: Write>(
     alloc: Global,
     input: &mut R,
@@ -102,7 +105,7 @@ fn next_line<R: BufRead>(input: &mut R, line: &mut Vec<u8>) -> Result<bool, Stop
     Ok(count > 0)
 }
 
-/// Why the program stops where the input can't be read.
+/// Why the program stops where the input cannot be read.
 fn unread(error: io::Error) -> Stop
     ensures memory { (result ≡ Stop.Memory) ↔ (error_kind error ≡ ErrorKind.OutOfMemory) }
     ensures never { result ≢ Stop.Write }

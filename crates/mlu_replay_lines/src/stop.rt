@@ -9,7 +9,7 @@ use std::alloc::AllocError;
 /// Why the program ends before its input does.
 #[derive(Clone, Copy, Debug, PartialEq, Eq)]
 pub enum Stop {
-    /// The input can't be read, or has more lines than can be counted.
+    /// The input cannot be read, or has more lines than can be counted.
     Read,
     /// Memory was refused.
     Memory,
