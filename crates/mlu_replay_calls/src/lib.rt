@@ -3,7 +3,8 @@
 //! [`ops`] has each call once, over any rings and any width; what a call asks of the sizes of its
 //! operands is tested before it is made. docs/REPLAY.md has the words.
 //!
-//! Stands on the crates up to `multilinear_util`, and on `mlu_replay_lines` for the faults of a case; `mlu_replay_rings` names the rings and the widths.
+//! Stands on the crates up to `multilinear_util`, and on `mlu_replay_lines` for the faults of a case;
+//! `mlu_replay_rings` names the rings and the widths.
 #![tactic(auto)]
 
 mod decimals;

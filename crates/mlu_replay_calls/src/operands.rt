@@ -72,6 +72,24 @@ impl Words<'_> {
         Ok(table)
     }
 
+    /// A table and an element.
+    pub fn table_and_element<A: Element, B: Element>(&mut self) -> Result<(Poly<A>, B), Fault> {
+        let table = self.table()?;
+        let element = self.element()?;
+        Ok((table, element))
+    }
+
+    /// A table with at least one variable, and an element.
+    pub fn larger_table_and_element<A: Element, B: Element>(
+        &mut self,
+    ) -> Result<(Poly<A>, B), Fault>
+        ensures { IfOk result (λ x. 1 < length x.0) }
+    {
+        let table = self.larger_table()?;
+        let element = self.element()?;
+        Ok((table, element))
+    }
+
     /// A point.
     pub fn point<T: Element>(&mut self) -> Result<Point<T>, Fault>
         ensures { IfOk result (λ point. IsTaken (words_left self.old) (words_left self.new) (λ word. IsListWord T.stands word point)) }
@@ -132,6 +150,17 @@ impl Words<'_> {
         Ok((table, point))
     }
 
+    /// A table, a point with at most as many coordinates as it has variables, and an element.
+    pub fn table_part_and_scale<A: Element, B: Element>(
+        &mut self,
+    ) -> Result<(Poly<A>, Point<B>, B), Fault>
+        ensures { IfOk result (λ x. 2 ^ length x.1 ≤ length x.0) }
+    {
+        let (table, point) = self.table_and_part()?;
+        let scale = self.element()?;
+        Ok((table, point, scale))
+    }
+
     /// The storage of a split table, a table, and a split table with as many entries.
     pub fn table_and_split<T: Element, F: Field, EF: ExtensionField<F> + Element>(
         &mut self,
@@ -173,6 +202,16 @@ impl Words<'_> {
         let point = self.short_point()?;
         let scale = self.element()?;
         split_table(self.alloc(), &point, scale, is_packed)
+    }
+
+    /// The storage of a split table, a point and a scale.
+    pub fn stored_split<F: Field, EF: ExtensionField<F> + Element>(
+        &mut self,
+    ) -> Result<SplitEq<F, EF>, Fault>
+        ensures { IfOk result (λ split. length (split_entries EF.ring split) < 2 ^ 64) }
+    {
+        let is_packed = self.is_packed()?;
+        self.split(is_packed)
     }
 
     /// The split table of a point.

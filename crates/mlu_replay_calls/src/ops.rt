@@ -1,4 +1,7 @@
 //! The calls by their names. Each is written once, over any rings and any width.
+//!
+//! Each fails where an operand is missing, stands for nothing of its kind or has a size that the call
+//! does not accept, and where memory is refused.
 
 mod batches;
 mod compressions;
@@ -108,12 +111,12 @@ fn extended<
         "split.accumulate_next_chunk_into" => {
             successors::accumulate_next_chunk_into::<F, EF>(words)
         }
-        _ => unpacked::<EF>(op, words),
+        _ => over_one_ring::<EF>(op, words),
     }
 }
 
 /// The calls over one ring.
-fn unpacked<F: Field + SelfAlgebra + Element>(
+fn over_one_ring<F: Field + SelfAlgebra + Element>(
     op: &str,
     words: &mut Words<'_>,
 ) -> Result<String, Fault> {

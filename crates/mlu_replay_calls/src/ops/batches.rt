@@ -39,7 +39,7 @@ pub fn eq_batch<F: Field, EF: ExtensionField<F> + Element>(
     } else {
         eval_eq_batch::<F, EF, false>(alloc, view, &mut out, &scalars)?;
     }
-    Ok(list_word(alloc, &out)?)
+    list_word(alloc, &out)
 }
 
 /// `eval_eq_base_batch`: whether the output counts, points, scalars and the output.
@@ -57,7 +57,7 @@ pub fn eq_base_batch<F: Field + Element, EF: ExtensionField<F> + Element>(
     } else {
         eval_eq_base_batch::<F, EF, false>(alloc, view, &mut out, &scalars)?;
     }
-    Ok(list_word(alloc, &out)?)
+    list_word(alloc, &out)
 }
 
 /// The matrix whose columns are the points.

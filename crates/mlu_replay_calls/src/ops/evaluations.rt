@@ -1,10 +1,10 @@
 //! Calls that give the value of a table at a point.
 
 use crate::element::Element;
-use crate::lines::word;
+use crate::lines::value_word;
 use crate::sizes::pack;
 use crate::words::Words;
-use mlu_replay_lines::fault::{Fault, Reason};
+use mlu_replay_lines::fault::Fault;
 use mlu_ring::{ExtensionField, Field};
 use multilinear_util::poly::PolyMaybePacked;
 
@@ -13,8 +13,7 @@ pub fn eval_base<F: Field + Element, EF: ExtensionField<F> + Element>(
     words: &mut Words<'_>,
 ) -> Result<String, Fault> {
     let (table, point) = words.table_and_point::<F, EF>()?;
-    let value = table.eval_base(words.alloc(), &point)?;
-    Ok(word(words.alloc(), value)?)
+    value_word(words.alloc(), table.eval_base(words.alloc(), &point))
 }
 
 /// `eval_ext`: a table and a point.
@@ -22,8 +21,7 @@ pub fn eval_ext<F: Field, EF: ExtensionField<F> + Element>(
     words: &mut Words<'_>,
 ) -> Result<String, Fault> {
     let (table, point) = words.table_and_point::<EF, EF>()?;
-    let value = table.eval_ext::<F>(words.alloc(), &point)?;
-    Ok(word(words.alloc(), value)?)
+    value_word(words.alloc(), table.eval_ext::<F>(words.alloc(), &point))
 }
 
 /// `eval_packed`: a table and a point.
@@ -32,8 +30,8 @@ pub fn eval_packed<F: Field, EF: ExtensionField<F> + Element>(
 ) -> Result<String, Fault> {
     let (table, point) = words.table_and_point::<EF, EF>()?;
     let packed = pack::<F, EF>(words.alloc(), &table)?;
-    let value = packed.eval_packed::<F, EF>(words.alloc(), &point)?;
-    Ok(word(words.alloc(), value)?)
+    let value = packed.eval_packed::<F, EF>(words.alloc(), &point);
+    value_word(words.alloc(), value)
 }
 
 /// `eval` of either storage: which, a table and a point.
@@ -47,6 +45,5 @@ pub fn maybe_packed_eval<F: Field, EF: ExtensionField<F> + Element>(
     } else {
         PolyMaybePacked::Scalar(table)
     };
-    let value = stored.eval(words.alloc(), &point)?;
-    Ok(word(words.alloc(), value)?)
+    value_word(words.alloc(), stored.eval(words.alloc(), &point))
 }

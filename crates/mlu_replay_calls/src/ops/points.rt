@@ -14,21 +14,21 @@ const MOST_COORDINATES: usize = 1 << 24;
 pub fn msb<F: Field + Element>(words: &mut Words<'_>) -> Result<String, Fault> {
     let point = words.short_point::<F>()?;
     let weights = point.equality_weights_msb(words.alloc())?;
-    Ok(list_word(words.alloc(), &weights)?)
+    list_word(words.alloc(), &weights)
 }
 
 /// `lsb`: a point.
 pub fn lsb<F: Field + Element>(words: &mut Words<'_>) -> Result<String, Fault> {
     let point = words.short_point::<F>()?;
     let weights = point.equality_weights_lsb(words.alloc())?;
-    Ok(list_word(words.alloc(), &weights)?)
+    list_word(words.alloc(), &weights)
 }
 
 /// `reversed`: a point.
 pub fn reversed<F: Field + Element>(words: &mut Words<'_>) -> Result<String, Fault> {
     let point = words.point::<F>()?;
     let reversed = point.reversed(words.alloc())?;
-    Ok(list_word(words.alloc(), reversed.as_slice())?)
+    list_word(words.alloc(), reversed.as_slice())
 }
 
 /// `equality_at_vertex`: a point and a vertex.
@@ -36,7 +36,7 @@ pub fn equality_at_vertex<F: Field + Element>(words: &mut Words<'_>) -> Result<S
     let point = words.point::<F>()?;
     let vertex = words.number()?;
     match point.equality_at_vertex(vertex) {
-        Some(weight) => Ok(word(words.alloc(), weight)?),
+        Some(weight) => word(words.alloc(), weight),
         None => Ok(String::from_str(words.alloc(), "none")?),
     }
 }
@@ -52,7 +52,7 @@ pub fn hypercube<F: Field + Element>(words: &mut Words<'_>) -> Result<String, Fa
         return Err(Fault::Unknown(Reason::Size));
     }
     let point = Point::<F>::hypercube(words.alloc(), vertex, variables)?;
-    Ok(list_word(words.alloc(), point.as_slice())?)
+    list_word(words.alloc(), point.as_slice())
 }
 
 /// `expand_from_univariate`: an element and the number of coordinates.
@@ -63,7 +63,7 @@ pub fn expand_from_univariate<F: Field + Element>(words: &mut Words<'_>) -> Resu
         return Err(Fault::Unknown(Reason::Large));
     }
     let point = Point::expand_from_univariate(words.alloc(), y, variables)?;
-    Ok(list_word(words.alloc(), point.as_slice())?)
+    list_word(words.alloc(), point.as_slice())
 }
 
 /// `eval_eq`: two points.
@@ -76,7 +76,7 @@ pub fn eval_eq<F: Field + Element, EF: ExtensionField<F> + Element>(
         return Err(Fault::Unknown(Reason::Size));
     }
     let value = Point::eval_eq(&p, &q);
-    Ok(word(words.alloc(), value)?)
+    word(words.alloc(), value)
 }
 
 /// `eval_select`: an element and a point.
@@ -86,5 +86,5 @@ pub fn eval_select<F: Field + Element, EF: ExtensionField<F> + Element>(
     let var = words.element::<F>()?;
     let point = words.list::<EF>()?;
     let value = Point::eval_select(var, &point);
-    Ok(word(words.alloc(), value)?)
+    word(words.alloc(), value)
 }

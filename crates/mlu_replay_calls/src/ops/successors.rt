@@ -1,7 +1,7 @@
 //! Calls of the successor: the table, the rows and the compressions moved on by one place.
 
 use crate::element::Element;
-use crate::lines::{list_word, word};
+use crate::lines::{list_word, table_word, value_word, word};
 use crate::words::Words;
 use mlu_replay_lines::fault::{Fault, Reason};
 use mlu_ring::{ExtensionField, Field};
@@ -20,14 +20,14 @@ pub fn eval_next<F: Field + Element>(words: &mut Words<'_>) -> Result<String, Fa
     for step in [carry, done, omega] {
         steps.push(step).map_err(|_| Fault::Memory)?;
     }
-    Ok(list_word(words.alloc(), &steps)?)
+    list_word(words.alloc(), &steps)
 }
 
 /// `new_next_from_point`: a point.
 pub fn new_next_from_point<F: Field + Element>(words: &mut Words<'_>) -> Result<String, Fault> {
     let point = words.short_point::<F>()?;
-    let table = Poly::new_next_from_point(words.alloc(), point.as_slice())?;
-    Ok(list_word(words.alloc(), table.as_slice())?)
+    let table = Poly::new_next_from_point(words.alloc(), point.as_slice());
+    table_word(words.alloc(), table)
 }
 
 /// `eval_next_base`: a table and a point.
@@ -35,8 +35,7 @@ pub fn eval_next_base<F: Field + Element, EF: ExtensionField<F> + Element>(
     words: &mut Words<'_>,
 ) -> Result<String, Fault> {
     let (table, point) = words.table_and_point::<F, EF>()?;
-    let value = table.eval_next_base(words.alloc(), &point)?;
-    Ok(word(words.alloc(), value)?)
+    value_word(words.alloc(), table.eval_next_base(words.alloc(), &point))
 }
 
 /// `split.eval_next_base`: the storage, a table, a point and a scale.
@@ -44,8 +43,7 @@ pub fn split_eval_next_base<F: Field + Element, EF: ExtensionField<F> + Element>
     words: &mut Words<'_>,
 ) -> Result<String, Fault> {
     let (table, split) = words.table_and_split::<F, F, EF>()?;
-    let value = split.eval_next_base(table.as_view());
-    Ok(word(words.alloc(), value)?)
+    word(words.alloc(), split.eval_next_base(table.as_view()))
 }
 
 /// `split.compress_prefix_shifted`: the storage, a table, a point and a scale.
@@ -53,8 +51,8 @@ pub fn compress_prefix_shifted<F: Field + Element, EF: ExtensionField<F> + Eleme
     words: &mut Words<'_>,
 ) -> Result<String, Fault> {
     let (table, split) = words.table_and_smaller_split::<F, EF>()?;
-    let compressed = split.compress_prefix_shifted(words.alloc(), table.as_view())?;
-    Ok(list_word(words.alloc(), compressed.as_slice())?)
+    let compressed = split.compress_prefix_shifted(words.alloc(), table.as_view());
+    table_word(words.alloc(), compressed)
 }
 
 /// `split.compress_suffix_shifted`: the storage, a table, a point and a scale.
@@ -62,17 +60,16 @@ pub fn compress_suffix_shifted<F: Field + Element, EF: ExtensionField<F> + Eleme
     words: &mut Words<'_>,
 ) -> Result<String, Fault> {
     let (table, split) = words.table_and_smaller_split::<F, EF>()?;
-    let compressed = split.compress_suffix_shifted(words.alloc(), table.as_view())?;
-    Ok(list_word(words.alloc(), compressed.as_slice())?)
+    let compressed = split.compress_suffix_shifted(words.alloc(), table.as_view());
+    table_word(words.alloc(), compressed)
 }
 
 /// `split.last_scalar`: the storage, a point and a scale.
 pub fn last_scalar<F: Field, EF: ExtensionField<F> + Element>(
     words: &mut Words<'_>,
 ) -> Result<String, Fault> {
-    let is_packed = words.is_packed()?;
-    let split = words.split::<F, EF>(is_packed)?;
-    Ok(word(words.alloc(), split.last_scalar())?)
+    let split = words.stored_split::<F, EF>()?;
+    word(words.alloc(), split.last_scalar())
 }
 
 /// `split.eq1_last_scalar`: the storage and a point.
@@ -81,7 +78,7 @@ pub fn eq1_last_scalar<F: Field, EF: ExtensionField<F> + Element>(
 ) -> Result<String, Fault> {
     let is_packed = words.is_packed()?;
     let split = words.unscaled_split::<F, EF>(is_packed)?;
-    Ok(word(words.alloc(), split.eq1().last_scalar())?)
+    word(words.alloc(), split.eq1().last_scalar())
 }
 
 /// `split.accumulate_next_chunk_into`: the storage, the output, a point, the two weights and the
@@ -100,5 +97,5 @@ pub fn accumulate_next_chunk_into<F: Field, EF: ExtensionField<F> + Element>(
         return Err(Fault::Unknown(Reason::Size));
     }
     eq1.accumulate_next_chunk_into(out.as_mut_slice(), eq_weight, shifted_weight, boundary);
-    Ok(list_word(words.alloc(), out.as_slice())?)
+    list_word(words.alloc(), out.as_slice())
 }

@@ -1,7 +1,7 @@
 //! Calls that make tables, and those that change no values.
 
 use crate::element::Element;
-use crate::lines::list_word;
+use crate::lines::{list_word, packed_word, table_word};
 use crate::operands::MOST_VARIABLES;
 use crate::sizes::pack;
 use crate::words::Words;
@@ -13,7 +13,7 @@ use multilinear_util::poly::Poly;
 pub fn truncate_to_half<F: Element>(words: &mut Words<'_>) -> Result<String, Fault> {
     let mut table = words.larger_table::<F>()?;
     table.truncate_to_half();
-    Ok(list_word(words.alloc(), table.as_slice())?)
+    list_word(words.alloc(), table.as_slice())
 }
 
 /// `pad_zeros`: a table and the number of variables.
@@ -29,7 +29,7 @@ pub fn pad_zeros<F: PrimeCharacteristicRing + Element>(
         return Err(Fault::Unknown(Reason::Size));
     }
     table.pad_zeros(variables)?;
-    Ok(list_word(words.alloc(), table.as_slice())?)
+    list_word(words.alloc(), table.as_slice())
 }
 
 /// `pack`, and then `unpack`: a table.
@@ -38,8 +38,7 @@ pub fn pack_unpack<F: Field, EF: ExtensionField<F> + Element>(
 ) -> Result<String, Fault> {
     let table = words.table::<EF>()?;
     let packed = pack::<F, EF>(words.alloc(), &table)?;
-    let table = packed.unpack::<F, EF>(words.alloc())?;
-    Ok(list_word(words.alloc(), table.as_slice())?)
+    table_word(words.alloc(), packed.unpack::<F, EF>(words.alloc()))
 }
 
 /// `new_from_point`: a point and a scale.
@@ -48,8 +47,8 @@ pub fn new_from_point<F: PrimeCharacteristicRing + Element>(
 ) -> Result<String, Fault> {
     let point = words.short_point::<F>()?;
     let scale = words.element::<F>()?;
-    let table = Poly::new_from_point(words.alloc(), point.as_slice(), scale)?;
-    Ok(list_word(words.alloc(), table.as_slice())?)
+    let table = Poly::new_from_point(words.alloc(), point.as_slice(), scale);
+    table_word(words.alloc(), table)
 }
 
 /// `new_packed_from_point`: a point and a scale.
@@ -61,7 +60,6 @@ pub fn new_packed_from_point<F: Field, EF: ExtensionField<F> + Element>(
     if point.num_variables() < <F::Packing as PackedValue>::LOG_WIDTH {
         return Err(Fault::Unknown(Reason::Size));
     }
-    let packed = Poly::new_packed_from_point::<F, EF>(words.alloc(), point.as_slice(), scale)?;
-    let table = packed.unpack::<F, EF>(words.alloc())?;
-    Ok(list_word(words.alloc(), table.as_slice())?)
+    let packed = Poly::new_packed_from_point::<F, EF>(words.alloc(), point.as_slice(), scale);
+    packed_word::<F, EF>(words.alloc(), packed)
 }
