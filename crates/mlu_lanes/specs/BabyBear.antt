@@ -1,5 +1,5 @@
 -- The integers modulo 2013265921, as values of `BabyBear`.
-use Rattle.std.specs.Prelude.{◌≡◌, ℕ, ◌*◌, ◌%◌, ◌^◌, ◌<◌}
+use Rattle.std.specs.Prelude.{◌≡◌, ℕ, ◌+◌, ◌*◌, ◌%◌, ◌^◌, ◌<◌}
 use Rattle.std.proofs.Common.{refl, lit<}
 use Rattle.std.proofs.Math.Nat.{mod-lt}
 use Rattle.std.specs.Coded.{le_prop}
@@ -8,6 +8,10 @@ use Rattle.mlu_ring.specs.Ring.{Ring, RingLaws}
 use Rattle.mlu_lanes.specs.Residues.{IsResidues, residue_ring, residue_laws}
 use Rattle.mlu_lanes.specs.declared.baby_bear.BabyBear.{BabyBear}
 use Rattle.mlu_lanes.specs.declared.baby_bear.TheConstants.{MODULUS}
+
+-- the prime, whatever the code calls it
+pub modulus_is : MODULUS ≡ 15 * 2 ^ 27 + 1
+modulus_is = refl
 
 module _ {W : ℕ} where
   -- the least residue
