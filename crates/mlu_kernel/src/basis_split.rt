@@ -25,7 +25,7 @@ pub(crate) const MOST_WEIGHTS: usize = 128;
 /// The most coefficients that are split into columns.
 pub(crate) const MOST_COEFFICIENTS: usize = 8;
 
-/// The coefficients of the weights, a column for each. The places past the weights are zeros.
+/// The coefficients of the weights, a column for each. What stands past the weights is not read.
 #[inline]
 pub(crate) fn split_coefficients<F: Field, EF: ExtensionField<F>, const D: usize>(
     weights: &[EF::ExtensionPacking],
@@ -45,7 +45,7 @@ pub(crate) fn split_coefficients<F: Field, EF: ExtensionField<F>, const D: usize
     split
 }
 
-/// Coefficient `k` of the weights, and zeros past them.
+/// Coefficient `k` of the weights, from the first place on.
 #[inline]
 fn coefficient_column<F: Field, EF: ExtensionField<F>>(
     weights: &[EF::ExtensionPacking],
@@ -66,7 +66,8 @@ fn coefficient_column<F: Field, EF: ExtensionField<F>>(
 }
 
 /// [`row_dot_in_lanes`](crate::one_row::row_dot_in_lanes) of row `j` of so many rows, from the
-/// columns of the weights. The row is loaded into `blocks`, a place for each weight.
+/// columns of the weights. The row goes by way of `blocks`, a place for each weight; what these
+/// then hold is not promised.
 #[inline]
 pub(crate) fn row_dot_by_columns<F: Field, EF: ExtensionField<F>, const D: usize>(
     weights: &[EF::ExtensionPacking],
