@@ -172,6 +172,7 @@ fn points_side_by_side(rt: HostRuntime) -> Result<(), Fail> {
 fn values_at_points(rt: HostRuntime) -> Result<(), Fail> {
     assert!(rt; pairs(rt.alloc(), Row::Values)?);
     assert!(rt; pairs(rt.alloc(), Row::Field(FieldRow::Steps))?);
+    assert!(rt; residues::<4>(rt.alloc(), FieldRow::Steps)?);
     Ok(())
 }
 
