@@ -15,6 +15,7 @@ pub mod Transposes
 pub mod Outputs
 pub mod Columns
 pub mod Batches
+pub mod OnePoint
 pub mod Halves
 pub mod Blocks
 pub mod Groups

@@ -5,6 +5,7 @@
 //! the chunks of the output; in a chunk of enough variables the last ones are the lanes of shares of
 //! four packed values, and those between split these.
 ghost use Rattle.std.specs.Prelude.{◌≡◌, ◌+◌, ◌*◌, ◌<◌, ◌≤◌, ◌/◌, ◌^◌, ◌++◌, length, map, replicate, is_ok, IsOk, IfOk, if◌then◌else◌};
+ghost use Rattle.mlu_ring.specs.Matrices.{batch};
 ghost use Rattle.mlu_point.specs.Batches.{with_batch, after_batch, share_places, IsRoom};
 
 mod evaluator;
@@ -13,6 +14,7 @@ mod lanes;
 mod shares;
 
 use crate::evaluator::EmbeddedCoordinates;
+use crate::point::{BitOrder, fill_equality_table};
 use evaluator::{ExtFieldEvaluator, PackedEvaluator};
 use fours::FOUR;
 use lanes::{LOG_FOUR, add_chunk};
@@ -33,7 +35,7 @@ use std::alloc::{AllocError, Global};
 /// Where the working space is refused, or its size does not fit `usize`; the output is then as
 /// before. For `p` points of `n` variables it is `p * (n + 1)` elements up to `log2(W) + 1`
 /// variables, else `4 * p * (n - log2(W) - 1)` packed elements and `p + 4 * W` elements. With no
-/// points no space is asked for.
+/// points no space is asked for, nor with one that is written: its table is filled in place.
 pub fn eval_eq_batch<F: Field, EF: ExtensionField<F>, const INITIALIZED: bool>(
     alloc: Global,
     evals: RowMajorMatrixView<'_, EF>,
@@ -45,10 +47,15 @@ pub fn eval_eq_batch<F: Field, EF: ExtensionField<F>, const INITIALIZED: bool>(
     ensures left { out.new ≡ after_batch EF.ring (is_ok result) INITIALIZED out.old evals.entry.values.now scalars.now }
     ensures no_points { length scalars.now ≡ 0 → IsOk result }
 {
+    if !INITIALIZED && scalars.len() == 1 {
+        write_table(out, evals.values, scalars);
+        return Ok(());
+    }
     evaluate::<F, EF, EF, ExtFieldEvaluator, INITIALIZED>(alloc, evals, out, scalars, 0)
 }
 
-/// As [`eval_eq_batch`], at points whose coordinates lie in the base field.
+/// As [`eval_eq_batch`], at points whose coordinates lie in the base field. One point that is
+/// written takes working space too.
 pub fn eval_eq_base_batch<F: Field, EF: ExtensionField<F>, const INITIALIZED: bool>(
     alloc: Global,
     evals: RowMajorMatrixView<'_, F>,
@@ -68,7 +75,7 @@ pub fn eval_eq_base_batch<F: Field, EF: ExtensionField<F>, const INITIALIZED: bo
 ///
 /// Asks besides that `log_chunks` is at most the number of variables; with no points it is not
 /// read. The working space is that of the `n - log_chunks` variables of a chunk, and `p * log_chunks`
-/// elements more.
+/// elements more; one point that is written takes it too.
 pub fn eval_eq_batch_in_chunks<F: Field, EF: ExtensionField<F>, const INITIALIZED: bool>(
     alloc: Global,
     evals: RowMajorMatrixView<'_, EF>,
@@ -100,6 +107,16 @@ pub fn eval_eq_base_batch_in_chunks<F: Field, EF: ExtensionField<F>, const INITI
     ensures no_points { length scalars.now ≡ 0 → IsOk result }
 {
     evaluate::<F, EF, F, EmbeddedCoordinates, INITIALIZED>(alloc, evals, out, scalars, log_chunks)
+}
+
+/// The batch of one point, written: its table times the scalar, filled in place.
+#[tactic(auto, using(crate::proofs::OnePoint::batch_one))]
+fn write_table<S: PrimeCharacteristicRing>(out: &mut [S], point: &[S], scalars: &[S])
+    requires one { length scalars.now ≡ 1 }
+    requires size { length out.old ≡ 2 ^ (length point.now / length scalars.now) }
+    ensures { out.new ≡ batch S.ring point.now scalars.now (length out.old) }
+{
+    fill_equality_table(out, point, BitOrder::Msb, scalars[0])
 }
 
 /// The batch, with all working space taken before the first write.
