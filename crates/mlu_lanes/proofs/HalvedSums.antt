@@ -22,7 +22,7 @@ module _ {W : ℕ} where
   abbrev pub of_halves : ℕ → ℕ → BabyBear W
   of_halves low high = reduced (low + 2 ^ 32 * high)
 
-  reduced_sum : (m n : ℕ) → reduced (m + n) ≡ (baby_bear_ring W).sum (reduced m) (reduced n)
+  pub reduced_sum : (m n : ℕ) → reduced (m + n) ≡ (baby_bear_ring W).sum (reduced m) (reduced n)
   reduced_sum m n =
       same_residue canonical_are_residues (m + n) (m % MODULUS + n % MODULUS)
       (sym (mod-add-mod m MODULUS (n % MODULUS) ∙ add-mod-mod m n MODULUS))

@@ -7,4 +7,5 @@ pub mod Prepared
 pub mod ResidueSums
 pub mod PackedSums
 pub mod HalvedSums
+pub mod Dots
 pub mod Spread

@@ -1,5 +1,5 @@
 -- Packed residues, lane by lane.
-use Rattle.std.specs.Prelude.{◌≡◌, ℕ, List, slice_index_or}
+use Rattle.std.specs.Prelude.{◌≡◌, ℕ, ◌*◌, List, slice_index_or}
 use Rattle.std.specs.Borrow.{Bor}
 use Rattle.mlu_lanes.specs.BabyBear.{canonical, reduced}
 use Rattle.mlu_lanes.specs.LaneRing.{values_of}
@@ -13,6 +13,10 @@ residue p j = canonical (slice_index_or (values_of p) j (reduced 0))
 -- that of entry k
 abbrev pub residue_at : {W : ℕ} → List (BabyBear W) → ℕ → ℕ
 residue_at elements k = canonical (slice_index_or elements k (reduced 0))
+
+-- the product of those of entry k of two lists, as an integer
+abbrev pub product_at : {W : ℕ} → List (BabyBear W) → List (BabyBear W) → ℕ → ℕ
+product_at l r k = residue_at l k * residue_at r k
 
 -- the least residues of four elements
 abbrev pub residues : {W : ℕ} → BabyBear W × BabyBear W × BabyBear W × BabyBear W → ℕ × ℕ × ℕ × ℕ

@@ -5,6 +5,7 @@ ghost use Rattle.mlu_lanes.specs.declared.baby_bear.TheConstants.{MODULUS};
 use std::alloc::AllocError;
 
 pub mod columns;
+mod dot;
 mod extension;
 mod field;
 mod montgomery;

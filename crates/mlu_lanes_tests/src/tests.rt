@@ -1,5 +1,6 @@
 //! Worked values, calls of each item at each ring, and what `{:?}` prints.
 mod bounds;
+mod dots;
 mod packed;
 mod rows;
 mod texts;

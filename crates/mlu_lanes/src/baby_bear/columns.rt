@@ -135,7 +135,7 @@ pub fn row<const W: usize, E: Coefficients<BabyBear<W>>>(element: &E) -> Simd<u3
 
 /// The residues of `lows + 2^32 * highs`, lane by lane.
 #[inline(always)]
-fn reduce_halves(lows: Simd<u64, 4>, highs: Simd<u64, 4>) -> Simd<u32, 4>
+pub fn reduce_halves(lows: Simd<u64, 4>, highs: Simd<u64, 4>) -> Simd<u32, 4>
     requires { (j : ℕ) → j < 4 → slice_index lows j ≤ 2 ^ 62 }
     ensures { (j : ℕ) → j < 4 → slice_index result j ≡ (slice_index lows j + 2 ^ 32 * slice_index highs j) % MODULUS }
 {

@@ -3,6 +3,7 @@ ghost use Rattle.mlu_lanes.specs.LaneRing.{lane_by_lane};
 ghost use Rattle.mlu_lanes.specs.BabyBear.{baby_bear_ring};
 
 use super::BabyBear;
+use super::dot::dot_by_groups;
 use super::montgomery::{prepared, prepared_word};
 use super::packed::{
     prepared_product, prepared_reduced, product_reduced, products, scaled, scaled_each, sum_reduced,
@@ -31,6 +32,12 @@ where
     #[inline]
     fn bytes() -> usize {
         size_of::<Self>()
+    }
+
+    // Products are added up in four lanes, which are reduced once.
+    #[inline]
+    fn dot(l: &[Self], r: &[Self]) -> Self {
+        dot_by_groups(l, r)
     }
 
     #[inline(always)]
