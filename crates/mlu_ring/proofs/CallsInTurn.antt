@@ -1,3 +1,4 @@
+-- Calls of a function that keeps a state, one after the other.
 use Rattle.std.proofs.Common.{◌≡◌, ◌≢◌, ◌<◌, ◌+◌, ◌∙◌, ℕ, suc, zero, List, length, set, get_or, refl, sym, subst, arith, add-one}
 use Rattle.std.proofs.lemmas.List.{get_or-set_same, get_or-set_other}
 use Rattle.mlu_ring.specs.Calls.{CalledInTurn}

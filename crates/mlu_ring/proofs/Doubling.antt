@@ -1,11 +1,10 @@
 -- The table of a point from the table of its last coordinates.
 use Rattle.std.proofs.Common.{◌≡◌, ℕ, zero, suc, ◌+◌, ◌^◌, ◌<◌, List, [], ◌∷◌, ◌++◌, map, length, get_or, refl, sym, ap, ◌∙◌, arith, add-zero, zero-add, suc-add, set}
-use Rattle.std.proofs.lemmas.List.{map-append}
 use Rattle.mlu_ring.specs.Sums.{product_below}
 use Rattle.std.specs.List.{range_with_len}
 use Rattle.mlu_ring.specs.Ring.{Ring, RingLaws}
 use Rattle.mlu_ring.specs.Tables.{weight, weights}
-use Rattle.mlu_ring.proofs.Rings.{sum_product, product_negation, negation_product, product_left_comm, product_one}
+use Rattle.mlu_ring.proofs.Rings.{product_one}
 use Rattle.mlu_ring.proofs.SumsBelow.{map_from}
 use Rattle.mlu_ring.proofs.Values.{weight-low, weight-high}
 
@@ -58,23 +57,6 @@ module _ {R : Type 0} (ring : Ring R) (laws : RingLaws ring) where
       ∙ map_range-add f 0 m m
       ∙ ap (λ l. l ++ map f (range_with_len (0 + m) m)) low
       ∙ ap (λ l. map (λ w. (𝟙 ⊖ c) ⊗ w) (map (weight ring p) (range_with_len 0 m)) ++ l) high
-
-  stays : (s c w : R) → (s ⊗ w) ⊖ ((s ⊗ w) ⊗ c) ≡ s ⊗ ((𝟙 ⊖ c) ⊗ w)
-  stays s c w = simp (laws.minus_is, laws.product_sum, sum_product ring laws, laws.one_product, product_negation ring laws, negation_product ring laws, laws.product_assoc, laws.product_comm, product_left_comm ring laws)
-
-  goes : (s c w : R) → (s ⊗ w) ⊗ c ≡ s ⊗ (c ⊗ w)
-  goes s c w = simp (laws.product_assoc, laws.product_comm, product_left_comm ring laws)
-
-  -- the scaled table, doubled by a coordinate in front
-  pub table-doubled : (s c : R) (p low : List R) → low ≡ map (λ w. s ⊗ w) (weights ring p) → map (λ w. w ⊖ (w ⊗ c)) low ++ map (λ w. w ⊗ c) low ≡ map (λ w. s ⊗ w) (weights ring (c ∷ p))
-  table-doubled s c p low is =
-      rw (is, weights-first c p, map-append)
-      (ap (λ l. l ++ map (λ w. w ⊗ c) (map (λ w. s ⊗ w) (weights ring p)))
-      (map_twice (λ w. w ⊖ (w ⊗ c)) (λ w. s ⊗ w) (λ w. s ⊗ ((𝟙 ⊖ c) ⊗ w)) (λ w. stays s c w) (weights ring p)
-      ∙ sym (map_twice (λ w. s ⊗ w) (λ w. (𝟙 ⊖ c) ⊗ w) (λ w. s ⊗ ((𝟙 ⊖ c) ⊗ w)) (λ w. refl) (weights ring p)))
-      ∙ ap (λ l. map (λ w. s ⊗ w) (map (λ w. (𝟙 ⊖ c) ⊗ w) (weights ring p)) ++ l)
-      (map_twice (λ w. w ⊗ c) (λ w. s ⊗ w) (λ w. s ⊗ (c ⊗ w)) (λ w. goes s c w) (weights ring p)
-      ∙ sym (map_twice (λ w. s ⊗ w) (λ w. c ⊗ w) (λ w. s ⊗ (c ⊗ w)) (λ w. refl) (weights ring p))))
 
   pub table-none : (s : R) (out p : List R) → length p ≡ 0 → length out ≡ 2 ^ length p → set out 0 s ≡ map (λ w. s ⊗ w) (weights ring p)
   table-none s [] [] h k = absurd (omega arith)

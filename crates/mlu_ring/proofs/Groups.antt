@@ -53,11 +53,3 @@ module _ {R : Type 0} (ring : Ring R) (laws : RingLaws ring) where
       → s ≡ pair ring (take i w) e → m ≡ x ⊗ y → n ≡ s ⊕ m → n ≡ pair ring (take (i + 1) w) e
   pair-one_more w e i x y s m n long within at_x at_y is_s is_m is_n =
       is_n ∙ (λ j. is_s j ⊕ is_m j) ∙ sym (pair-take_more w e i x y within (omega (arith, long, within)) at_x at_y)
-
-  -- the sum s of the places before i, and the sum m of the four from i on
-  pub pair-four_more : (w e : List R) (i j : ℕ) (a b c d k l m n s p t : R) → j ≡ i + 4 → i + 3 < length w → length w ≡ length e
-      → a ≡ get_or w i a → b ≡ get_or w (i + 1) b → c ≡ get_or w (i + 2) c → d ≡ get_or w (i + 3) d
-      → k ≡ get_or e i k → l ≡ get_or e (i + 1) l → m ≡ get_or e (i + 2) m → n ≡ get_or e (i + 3) n
-      → s ≡ pair ring (take i w) e → p ≡ pair ring (a ∷ b ∷ c ∷ d ∷ []) (k ∷ l ∷ m ∷ n ∷ []) → t ≡ s ⊕ p → t ≡ pair ring (take j w) e
-  pair-four_more w e i j a b c d k l m n s p t at h long pa pb pc pd pk pl pm pn is_s is_p is_t =
-      is_t ∙ (λ x. is_s x ⊕ is_p x) ∙ sym (pair-take_four_more w e i j a b c d k l m n at h long pa pb pc pd pk pl pm pn)

@@ -1,6 +1,6 @@
 -- Powers of two that fit a word, as lengths of tables.
-use Rattle.std.proofs.Common.{Bool, true, false, List, length, take, length-take, ◌≡◌, ℕ, zero, suc, ◌+◌, ◌*◌, ◌/◌, ◌%◌, ◌^◌, ◌<◌, arith, refl, ap, ◌∙◌, sym, subst, rules}
-use Rattle.std.specs.Prelude.{IsTrue, count_ones, if◌then◌else◌}
+use Rattle.std.proofs.Common.{List, length, take, length-take, ◌≡◌, ℕ, zero, suc, ◌+◌, ◌*◌, ◌/◌, ◌%◌, ◌^◌, ◌<◌, arith, refl, ap, ◌∙◌, sym, subst, rules}
+use Rattle.std.specs.Prelude.{IsTrue, count_ones}
 use Rattle.std.specs.Int.{is_power_of_two}
 use Rattle.std.specs.Int.Count.{count_trailing_zeros}
 use Rattle.std.proofs.lemmas.Nat.{ones_le_self, zero_from_ones}
@@ -66,8 +66,3 @@ pub is_power_of_two-half : {X : Type 0} (xs : List X) (n : ℕ) → n ≡ length
 is_power_of_two-half xs n e fits test more =
     let half = half_power (length xs) _ (power_of_test (length xs) (subst (λ m. m < 2 ^ 64) e fits) test) more in
     is_power_of_two-power _ half.0 (omega (arith, e, half.1, half.2, length-take (n / 2) xs))
-
--- a length that is grown to a power of two, or kept
-pub is_power_of_two-grown : (grown : Bool) (n k old new : ℕ) → new ≡ (if grown then n else old) → n ≡ 2 ^ k → IsTrue (is_power_of_two old) → IsTrue (is_power_of_two new)
-is_power_of_two-grown true n k old new e p test = is_power_of_two-power new k (e ∙ p)
-is_power_of_two-grown false n k old new e p test = subst (λ m. IsTrue (is_power_of_two m)) (sym e) test

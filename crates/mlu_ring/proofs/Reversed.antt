@@ -65,7 +65,7 @@ halved n i x h =
     let twice : 2 ^ suc i ≡ 2 * 2 ^ i = omega arith in
     rw (fewer, more, twice) (ap (λ t. t % 2) (div-div-eq-div-mul x 2 (2 ^ i)))
 
--- bit i of the index with its bits reversed is bit n - 1 - i of the index
+-- the statement itself, which no proof cites: bit i of the index with its bits reversed is bit n - 1 - i of the index
 pub bit-rev : (n i x : ℕ) → i < n → bit n i (rev n x) ≡ bit n (n - 1 - i) x
 bit-rev zero i x h = absurd (omega arith)
 bit-rev (suc n) zero x h =

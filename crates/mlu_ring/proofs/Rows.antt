@@ -33,6 +33,14 @@ row-fits n rows width j h fits =
     let within : j + 1 ≤ rows = omega (arith, h) in
     omega (arith, fits, mul-le-mul_right width within)
 
+-- the place z of row y stands within so many rows
+pub place-within : (y rows z width : ℕ) → y < rows → z < width → y * width + z < rows * width
+place-within y rows z width h q = omega (arith, q, row-fits (rows * width) rows width y h (omega arith))
+
+-- row i ends within exactly so many rows
+pub row_end : (i rows width n : ℕ) → i < rows → n ≡ rows * width → i * width + width ≤ n
+row_end i rows width n h is = omega (arith, row-fits n rows width i h (omega (arith, is)))
+
 -- row j of exactly so many rows, where v is read for the width
 pub row-ends : (n rows width v j : ℕ) → j < rows → n ≡ rows * width → v ≡ width → (j + 1) * v ≤ n
 row-ends n rows width v j h is same = rw same (row-fits n rows width j h (omega (arith, is)))

@@ -1,13 +1,12 @@
 -- Sums of lists, and of the products of two lists, place by place.
-use Rattle.std.proofs.Common.{◌≡◌, ℕ, zero, suc, ◌+◌, ◌*◌, ◌<◌, List, [], ◌∷◌, ◌++◌, map, length, take, drop, get_or, replicate, refl, sym, ap, ◌∙◌, arith, length-append}
+use Rattle.std.proofs.Common.{◌≡◌, ℕ, zero, suc, ◌+◌, ◌*◌, ◌<◌, List, [], ◌∷◌, ◌++◌, length, take, drop, get_or, replicate, refl, sym, ap, ◌∙◌, arith, length-append}
 use Rattle.std.specs.Simd.Lanes.{zip2}
 use Rattle.std.proofs.lemmas.List.{get_or-take, get_or-drop, get_or_append_left, get_or-append-add, take_more, length-take-le}
-use Rattle.std.proofs.lemmas.Simd.{zip2_splat}
 use Rattle.mlu_ring.specs.Ring.{Ring, RingLaws}
 use Rattle.mlu_ring.specs.Sums.{sum_of, sum_below}
 use Rattle.mlu_ring.specs.Tables.{pair}
 use Rattle.mlu_ring.specs.Lanes.{IsLists, IsLaneByLane, logical}
-use Rattle.mlu_ring.proofs.Rings.{sum_zero, sum_left_comm, product_zero}
+use Rattle.mlu_ring.proofs.Rings.{sum_zero, sum_left_comm}
 use Rattle.mlu_ring.proofs.SumsBelow.{sum_below-same, sum_below-zero, sum_below-suc, sum_below-add}
 use Rattle.mlu_ring.proofs.Logical.{length-logical, logical-take_more}
 
@@ -45,10 +44,6 @@ module _ {R : Type 0} (ring : Ring R) (laws : RingLaws ring) where
   sum_of-zip_sum (x ∷ xs) (y ∷ ys) h =
       let rest = sum_of-zip_sum xs ys (omega arith) in
       simp (rest, laws.sum_assoc, sum_left_comm ring laws)
-
-  pub sum_of-scale : (xs : List R) (c : R) → sum_of ring (map (λ x. ring.product x c) xs) ≡ c ⊗ sum_of ring xs
-  sum_of-scale [] c = sym (product_zero ring laws c)
-  sum_of-scale (x ∷ xs) c = rw (sum_of-scale xs c, laws.product_comm x c) (sym (laws.product_sum c x (sum_of ring xs)))
 
   pub pair-nil : (e : List R) → pair ring [] e ≡ 𝟘
   unfolding pair
@@ -101,12 +96,6 @@ module _ {P V : Type 0} (packed : Ring P) (ring : Ring V) (laws : RingLaws ring)
 
   pub total-product : (p q : P) → sum_of ring (lanes (packed.product p q)) ≡ pair ring (lanes p) (lanes q)
   total-product p q = ap (sum_of ring) (each.product p q) ∙ sum_of-zip_product ring laws (lanes p) (lanes q) (parts.length-parts p ∙ sym (parts.length-parts q))
-
-  -- the product with one value in every lane
-  pub total-splat : (p q : P) (c : V) → lanes q ≡ replicate n c → sum_of ring (lanes (packed.product p q)) ≡ ring.product c (sum_of ring (lanes p))
-  total-splat p q c is =
-      ap (sum_of ring) (each.product p q ∙ ap (λ vs. zip2 ring.product (lanes p) vs) is ∙ zip2_splat ring.product (lanes p) n c (parts.length-parts p))
-      ∙ sum_of-scale ring laws (lanes p) c
 
   -- one more packed weight, with its block of the entries
   pub pair_logical-take_more : (ps : List P) (e : List V) (i : ℕ) (p : P) → i < length ps → pair ring (logical lanes (take (i + 1) ps)) e ≡ ring.sum (pair ring (logical lanes (take i ps)) e) (pair ring (lanes (get_or ps i p)) (take n (drop (i * n) e)))

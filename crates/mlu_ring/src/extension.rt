@@ -11,8 +11,8 @@ use crate::field::Field;
 use crate::packed::{Lanewise, PackedValue};
 use crate::ring::PrimeCharacteristicRing;
 
-/// The coefficients that are written out: the compiler does not unroll loops over them, and so would not
-/// prepare those of an element once.
+/// The dimension whose coefficients are written out: the compiler does not unroll a loop over them, and would
+/// prepare those of an element at each turn.
 const FOUR: usize = 4;
 
 /// A ring whose elements are lists of `DIMENSION` coefficients in `F`, and each coefficient is

@@ -8,7 +8,9 @@ use std::alloc::AllocError;
 /// A matrix that owns its values, row after row.
 #[derive(Debug, PartialEq, Eq, Drop)]
 pub struct RowMajorMatrix<F> {
+    /// The values, row after row.
     pub values: Vec<F>,
+    /// The number of values in a row, which divides their number; no values at width 0.
     pub width: usize,
     ghost rows: { AreRows (length values.items) width },
 }
@@ -16,7 +18,9 @@ pub struct RowMajorMatrix<F> {
 /// A matrix that borrows its values, row after row.
 #[derive(Debug, PartialEq, Eq)]
 pub struct RowMajorMatrixView<'a, F> {
+    /// The values, row after row.
     pub values: &'a [F],
+    /// The number of values in a row, which divides their number; no values at width 0.
     pub width: usize,
     ghost rows: { AreRows (length values.now) width },
 }
