@@ -12,11 +12,11 @@ use Rattle.mlu_ring.proofs.SumsBelow.{sum_below-same}
 use Rattle.mlu_ring.proofs.Tabulated.{tabulate, length-tabulate, get_or-tabulate}
 use Rattle.mlu_ring.proofs.Totals.{pair-nil, pair-cons}
 use Rattle.mlu_ring.proofs.Joined.{front-entry}
-use Rattle.mlu_ring.proofs.Rows.{row-fits, map-row_at}
+use Rattle.mlu_ring.proofs.Rows.{row-fits, place-within, map-row_at}
 use Rattle.mlu_ring.proofs.Logical.{length-logical, block-logical, get_or-logical, zip_block_more}
 use Rattle.mlu_kernel.specs.Kernels.{plus_rows}
 use Rattle.mlu_ring.proofs.PackedCoefficients.{IsPackedExtension, coefficient-sum, coefficient-scale, coefficient-splat, coefficient-zero, by_coefficients}
-use Rattle.mlu_kernel.proofs.PlusRows.{within, length-front, plus_rows_by_entry, plus_rows-front, plus_rows-append}
+use Rattle.mlu_kernel.proofs.PlusRows.{length-front, plus_rows_by_entry, plus_rows-front, plus_rows-append}
 
 -- the dot of the blocks with coefficient k of the weights, for each k
 abbrev pub products_of : {B E P : Type 0} → Ring B → Ring P → ℕ → (List B → P) → ℕ → (E → List B) → List E → List P → List P
@@ -117,7 +117,7 @@ module _ {B E P Q : Type 0} {base : Ring B} {ext : Ring E} {packing : Ring P} {p
       (λ y h.
       let place : y < length bs = omega (arith, long) in
       let size = length-logical lanes width laws.lanes_are.length-parts bs in
-      let held : y * width + z < length (logical lanes bs) = rw size (within y (length bs) z width place below) in
+      let held : y * width + z < length (logical lanes bs) = rw size (place-within y (length bs) z width place below) in
       ap (ext.product (get_or ws y ext.zero))
       (get_or-map (λ b. embed (get_or (lanes b) z base.zero)) bs y packing.zero ext.zero place
       ∙ ap embed (sym (get_or-logical lanes width laws.lanes_are.length-parts bs y z packing.zero base.zero place below))

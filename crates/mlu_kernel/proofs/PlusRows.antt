@@ -1,8 +1,8 @@
 -- Weighted rows added to a list.
-use Rattle.std.proofs.Common.{◌≡◌, ℕ, ◌+◌, ◌*◌, ◌/◌, ◌<◌, ◌≤◌, List, [], ◌∷◌, ◌++◌, map, length, take, drop, set, get_or, replicate, refl, sym, ap, ◌∙◌, arith}
+use Rattle.std.proofs.Common.{◌≡◌, ℕ, ◌+◌, ◌*◌, ◌/◌, ◌<◌, List, [], ◌∷◌, ◌++◌, map, length, take, drop, set, get_or, replicate, refl, sym, ap, ◌∙◌, arith}
 use mathlib.Core.Path.{fun_ext}
 use Rattle.std.specs.Simd.Lanes.{zip2}
-use Rattle.std.proofs.Math.Nat.{mul-le-mul_right, mul-div_cancel_left, mul_assoc}
+use Rattle.std.proofs.Math.Nat.{mul-div_cancel_left, mul_assoc}
 use Rattle.std.proofs.lemmas.List.{ext_get_or, get_or-take, get_or-drop, get_or-map, length-map, length-take-le, take_more, map-append, take-map, drop-map}
 use Rattle.std.proofs.lemmas.List.FromFn.{get_or-map-range_with_len, length-map-range_with_len}
 use Rattle.std.proofs.lemmas.Simd.{length-zip2, get_or-zip2, zip2_splat, zip2_splat_left}
@@ -12,16 +12,11 @@ use Rattle.mlu_ring.specs.Tables.{front}
 use Rattle.mlu_ring.specs.Lanes.{IsLists, IsLaneByLane, logical}
 use Rattle.mlu_ring.proofs.Rings.{sum_zero}
 use Rattle.mlu_ring.proofs.Joined.{front-entry}
+use Rattle.mlu_ring.proofs.Rows.{place-within}
 use Rattle.mlu_ring.proofs.SumsBelow.{sum_below-same, sum_below-zero}
 use Rattle.mlu_ring.proofs.Logical.{length-logical, logical-take_more, zip_block_more}
 use Rattle.mlu_ring.proofs.Totals.{sum_below-one, weighted-append}
 use Rattle.mlu_kernel.specs.Kernels.{plus_rows}
-
-pub within : (y m z s : ℕ) → y < m → z < s → y * s + z < m * s
-within y m z s h q =
-    let le : y + 1 ≤ m = omega arith in
-    let step : (y + 1) * s ≤ m * s = mul-le-mul_right s le in
-    omega arith
 
 module _ {R : Type 0} (ring : Ring R) (laws : RingLaws ring) where
   infixl 50 ◌⊕◌
@@ -74,7 +69,7 @@ module _ {R : Type 0} (ring : Ring R) (laws : RingLaws ring) where
       (λ y r.
       let at : length v * s + (y * s + z) ≡ (length v + y) * s + z = omega arith in
       ap (λ t. get_or w y 𝟘 ⊗ t)
-      (get_or-take (length w * s) (drop (length v * s) e) (y * s + z) 𝟘 (within y (length w) z s r place)
+      (get_or-take (length w * s) (drop (length v * s) e) (y * s + z) 𝟘 (place-within y (length w) z s r place)
       ∙ get_or-drop (length v * s) e (y * s + z) 𝟘
       ∙ ap (λ k. get_or e k 𝟘) at)))
       ∙ ap (λ t. get_or old z 𝟘 ⊕ t) (sym (weighted-append ring laws v w (λ y. get_or e (y * s + z) 𝟘)))
@@ -115,10 +110,12 @@ module _ {R : Type 0} (ring : Ring R) (laws : RingLaws ring) where
       ∙ ap (λ k. x ⊗ get_or e k 𝟘) (sym at)
       ∙ sym (sum_below-one ring laws (λ y. get_or (x ∷ []) y 𝟘 ⊗ get_or e (y * length old + z) 𝟘))))
 
-module _ {P V : Type 0} (packed : Ring P) (ring : Ring V) (laws : RingLaws ring) (lanes : P → List V) (of_lanes : List V → P) (n : ℕ) (parts : IsLists n lanes of_lanes) (each : IsLaneByLane n lanes packed ring) where
-  lanes-splat_product : (q b : P) (x : V) → lanes q ≡ replicate n x → lanes (packed.product q b) ≡ map (ring.product x) (lanes b)
+-- the product with one value in every lane
+module _ {P V : Type 0} (packed : Ring P) (ring : Ring V) (lanes : P → List V) (of_lanes : List V → P) (n : ℕ) (parts : IsLists n lanes of_lanes) (each : IsLaneByLane n lanes packed ring) where
+  pub lanes-splat_product : (q b : P) (x : V) → lanes q ≡ replicate n x → lanes (packed.product q b) ≡ map (ring.product x) (lanes b)
   lanes-splat_product q b x is = each.product q b ∙ ap (λ vs. zip2 ring.product vs (lanes b)) is ∙ zip2_splat_left ring.product x n (lanes b) (parts.length-parts b)
 
+module _ {P V : Type 0} (packed : Ring P) (ring : Ring V) (laws : RingLaws ring) (lanes : P → List V) (of_lanes : List V → P) (n : ℕ) (parts : IsLists n lanes of_lanes) (each : IsLaneByLane n lanes packed ring) where
   -- the loop that adds one row, packed value by packed value
   pub row_more : (ps : List P) (old e : List V) (z : ℕ) (x : V) (p q b : P) → z < length ps → length old ≡ length ps * n → length old ≡ length e
       → logical lanes ps ≡ zip2 ring.sum (take (z * n) old) (take (z * n) (map (ring.product x) e)) ++ drop (z * n) old
@@ -126,7 +123,7 @@ module _ {P V : Type 0} (packed : Ring P) (ring : Ring V) (laws : RingLaws ring)
       → logical lanes (set ps z (packed.sum p (packed.product q b))) ≡ zip2 ring.sum (take ((z + 1) * n) old) (take ((z + 1) * n) (map (ring.product x) e)) ++ drop ((z + 1) * n) old
   row_more ps old e z x p q b h many long is at_p at_q at_b =
       let block : lanes (packed.product q b) ≡ take n (drop (z * n) (map (ring.product x) e)) =
-      lanes-splat_product q b x at_q
+      lanes-splat_product packed ring lanes of_lanes n parts each q b x at_q
       ∙ ap (map (ring.product x)) at_b
       ∙ sym (take-map (ring.product x) n (drop (z * n) e))
       ∙ ap (λ vs. take n vs) (sym (drop-map (ring.product x) (z * n) e)) in

@@ -16,8 +16,8 @@ use mlu_ring::{
     packed_of_four, row_of, row_of_width,
 };
 
-/// The coefficients that are written out: the compiler does not unroll the loop over them, and so would
-/// not prepare those of the weights once for all places.
+/// The dimension whose coefficients are written out: the compiler does not unroll a loop over them, and would
+/// prepare those of the weights at each place.
 const FOUR: usize = 4;
 
 /// Whether rows can be taken by four: lanes come in fours, and elements take few bytes. A constant,
