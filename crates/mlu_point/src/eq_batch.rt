@@ -4,7 +4,7 @@
 //! one share for the lower half of the output and one for the upper half. The first variables give
 //! the chunks of the output; in a chunk of enough variables the last ones are the lanes of shares of
 //! four packed values, and those between split these.
-ghost use Rattle.std.specs.Prelude.{◌≡◌, ◌+◌, ◌*◌, ◌<◌, ◌≤◌, ◌/◌, ◌^◌, ◌++◌, length, map, replicate, is_ok, IsOk, IfOk, if◌then◌else◌};
+ghost use Rattle.std.specs.Prelude.{◌≡◌, ◌+◌, ◌*◌, ◌<◌, ◌≤◌, ◌/◌, ◌^◌, ◌++◌, length, map, replicate, false, is_ok, IsOk, IfOk, if◌then◌else◌};
 ghost use Rattle.mlu_ring.specs.Matrices.{batch};
 ghost use Rattle.mlu_point.specs.Batches.{with_batch, after_batch, share_places, IsRoom};
 
@@ -46,6 +46,7 @@ pub fn eval_eq_batch<F: Field, EF: ExtensionField<F>, const INITIALIZED: bool>(
     requires size { 0 < length scalars.now → length out.old ≡ 2 ^ (length evals.values.now / length scalars.now) }
     ensures left { out.new ≡ after_batch EF.ring (is_ok result) INITIALIZED out.old evals.entry.values.now scalars.now }
     ensures no_points { length scalars.now ≡ 0 → IsOk result }
+    ensures one_point { INITIALIZED ≡ false → length scalars.now ≡ 1 → IsOk result }
 {
     if !INITIALIZED && scalars.len() == 1 {
         write_table(out, evals.values, scalars);
