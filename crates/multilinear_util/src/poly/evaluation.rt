@@ -1,9 +1,10 @@
 //! The value of a polynomial at a point.
-ghost use Rattle.std.specs.Prelude.{◌≡◌, ◌<◌, ◌*◌, ◌^◌, length, map, IfOk, IsOk};
+ghost use Rattle.std.specs.Prelude.{◌≡◌, ◌<◌, ◌-◌, ◌*◌, ◌/◌, ◌^◌, length, map, IfOk, IsOk};
 ghost use Rattle.mlu_ring.specs.Lanes.{logical};
 ghost use Rattle.mlu_ring.specs.Successor.{next};
 ghost use Rattle.mlu_ring.specs.Tables.{pair, value, weights};
 ghost use Rattle.mlu_point.specs.Rules.{next_by};
+ghost use Rattle.multilinear_util.specs.Split.{split_entries};
 ghost use Rattle.multilinear_util.specs.Thresholds.{threshold};
 ghost use Rattle.multilinear_util.specs.Views.{entries};
 
@@ -18,6 +19,10 @@ use std::alloc::{AllocError, Global};
 /// The bytes of a base element up to which the split table serves one variable earlier.
 const SMALL_BYTES: usize = 4;
 
+/// The coefficients of weights that serve base entries better one by one than packed: four base
+/// entries and the coefficients of their weights are a row and a matrix, whose product is reduced once.
+const COEFFICIENTS: usize = 4;
+
 /// The number of variables from which a split table serves better than the recursion, which takes
 /// no memory.
 #[inline]
@@ -25,6 +30,22 @@ fn recursion_threshold(bytes: usize) -> usize
     ensures { result ≡ threshold bytes }
 {
     if bytes <= SMALL_BYTES { 9 } else { 10 }
+}
+
+/// The split table of the point, in the form that serves base entries better. Asks that the weights of
+/// each half fit `usize`.
+fn split_for_base<F: Field, EF: ExtensionField<F>>(
+    alloc: Global,
+    point: &Point<EF>,
+) -> Result<SplitEq<F, EF>, AllocError>
+    requires { 2 ^ (length point.now - length point.now / 2) < 2 ^ 64 }
+    ensures value { IfOk result (λ split. split_entries EF.ring split ≡ map (EF.ring.product EF.ONE) (weights EF.ring point.now)) }
+    ensures size { IfOk result (λ split. length (split_entries EF.ring split) ≡ 2 ^ length point.now) }
+{
+    if EF::DIMENSION == COEFFICIENTS {
+        return SplitEq::new_unpacked(alloc, point, EF::ONE);
+    }
+    SplitEq::new_packed(alloc, point, EF::ONE)
 }
 
 impl<F: Field> PolyView<'_, F> {
@@ -46,7 +67,7 @@ impl<F: Field> PolyView<'_, F> {
         if point.num_variables() < recursion_threshold(F::bytes()) {
             return Ok(eval_base(self.as_slice(), point.as_slice()));
         }
-        let split = SplitEq::<F, EF>::new_packed(alloc, point, EF::ONE)?;
+        let split = split_for_base(alloc, point)?;
         Ok(split.eval_base(*self))
     }
 
@@ -82,7 +103,7 @@ impl<F: Field> PolyView<'_, F> {
         requires { length (entries self.now) ≡ 2 ^ length point.now }
         ensures { IfOk result (λ x. x ≡ pair EF.ring (next_by rule EF.ring (weights EF.ring point.now)) (map EF.embed (entries self.now))) }
     {
-        let split = SplitEq::<F, EF>::new_packed(alloc, point, EF::ONE)?;
+        let split = split_for_base(alloc, point)?;
         Ok(split.eval_next_base_by(rule, *self))
     }
 

@@ -5,13 +5,13 @@ use Rattle.multilinear_util.proofs.Splits.{half_fits}
 use Rattle.multilinear_util.proofs.Successors.{pair-next_unit}
 use Rattle.multilinear_util.proofs.poly.view.PolyView.eval_next_base_by.Goals as goal
 
-pub new_packed-requires : goal.new_packed-requires
-new_packed-requires g c =
+pub split_for_base-requires : goal.split_for_base-requires
+split_for_base-requires g c =
     let whole : 2 ^ length c.args.point.now ≤ length (entries c.args.self.now) = omega (arith, c.requires) in
     half_fits (length c.args.point.now) (length (entries c.args.self.now)) whole (search rules)
 
 pub returns : goal.returns
 returns g c =
     c.eval_next_base_by.ensures
-    ∙ pair-next_unit g.EF.Additive.ring g.met.EF.Additive.laws c.args.rule c.ONE.result c.args.point.now (split_entries g.EF.Additive.ring c.in_ok-split.split) (map g.EF.Algebra.embed (entries c.args.self.now))
-    (c.ONE.ensures ∙ g.met.EF.Additive.one_is) c.in_ok-split.ensures.value
+    ∙ pair-next_unit g.EF.Additive.ring g.met.EF.Additive.laws c.args.rule g.EF.Additive.ONE c.args.point.now (split_entries g.EF.Additive.ring c.in_ok-split.split) (map g.EF.Algebra.embed (entries c.args.self.now))
+    g.met.EF.Additive.one_is c.in_ok-split.ensures.value
