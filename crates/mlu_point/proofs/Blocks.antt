@@ -1,16 +1,9 @@
 -- What a loop leaves that writes the images of a list block by block.
 use Rattle.std.proofs.Common.{◌≡◌, ℕ, zero, suc, ◌+◌, ◌-◌, ◌*◌, ◌<◌, ◌≤◌, List, [], ◌∷◌, ◌++◌, map, length, take, drop, ap, ◌∙◌, arith, zero-add, suc-add, refl}
-use Rattle.std.proofs.Math.Nat.{mul-le-mul_right}
 use Rattle.std.proofs.lemmas.List.{drop-drop}
+use Rattle.mlu_ring.proofs.Rows.{row_end}
 
--- the block at row i ends within m rows
-pub row_end : (i m n s : ℕ) → i < m → s ≡ m * n → i * n + n ≤ s
-row_end i m n s h is =
-    let le : i + 1 ≤ m = omega arith in
-    let rows : (i + 1) * n ≤ m * n = mul-le-mul_right n le in
-    omega arith
-
--- the places that the loop hasn't reached
+-- the places that the loop has not reached
 left_to_read : {V W : Type 0} (f : V → W) (xs : List V) (ys : List W) (m : ℕ) → m ≤ length xs → drop m (map f (take m xs) ++ ys) ≡ ys
 left_to_read f xs ys zero h = refl
 left_to_read f [] ys (suc m) h = absurd (omega arith)

@@ -1,19 +1,14 @@
 -- The point in a column of a matrix.
-use Rattle.std.proofs.Common.{◌≡◌, ℕ, suc, ◌+◌, ◌*◌, ◌/◌, ◌<◌, ◌≤◌, List, [], ◌∷◌, ◌++◌, map, length, length-append, get_or, drop, sym, ap, ◌∙◌, arith}
+use Rattle.std.proofs.Common.{◌≡◌, ℕ, suc, ◌+◌, ◌*◌, ◌/◌, ◌<◌, List, [], ◌∷◌, ◌++◌, map, length, length-append, get_or, drop, sym, ap, ◌∙◌, arith}
 use Rattle.std.specs.List.{range_with_len}
-use Rattle.std.proofs.Math.Nat.{mul-div_cancel, mul-le-mul_right}
+use Rattle.std.proofs.Math.Nat.{mul-div_cancel}
 use Rattle.std.proofs.lemmas.List.{get_or-drop, get_or_append_left, get_or-append-add}
 use Rattle.std.proofs.lemmas.List.FromFn.{length-map-range_with_len}
 use Rattle.mlu_ring.specs.Ring.{Ring}
 use Rattle.mlu_ring.specs.Matrices.{column}
+use Rattle.mlu_ring.proofs.Rows.{place-within}
 use Rattle.mlu_ring.proofs.SumsBelow.{map_from}
 use Rattle.mlu_ring.proofs.Doubling.{map_range-add}
-
-within : (y m z s : ℕ) → y < m → z < s → y * s + z < m * s
-within y m z s h q =
-    let le : y + 1 ≤ m = omega arith in
-    let step : (y + 1) * s ≤ m * s = mul-le-mul_right s le in
-    omega arith
 
 module _ {R : Type 0} (ring : Ring R) where
   -- the point of a column is its first coordinate before the point of the other rows
@@ -58,7 +53,7 @@ module _ {R : Type 0} (ring : Ring R) where
       (map_from 0 0 m f fa
       (λ j q.
       let at : 0 + j ≡ j = omega arith in
-      let inside : j * w + i < length a = omega (arith, size_a, within j m i w q below) in
+      let inside : j * w + i < length a = omega (arith, size_a, place-within j m i w q below) in
       ap f at ∙ get_or_append_left a b ring.zero (j * w + i) inside ∙ ap fa (sym at)))
       ∙ ap (λ l. map fa (range_with_len 0 m) ++ l)
       (map_from (0 + m) 0 h f fb

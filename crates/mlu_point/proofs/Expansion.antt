@@ -25,9 +25,6 @@ below-power x n none =
     let first : x / 2 ^ n * 2 ^ n ≡ 0 = ap (λ q. q * 2 ^ n) none ∙ none_of in
     omega (arith, bound, first)
 
-pub exponent-fits : (k : ℕ) → 2 ^ k < 2 ^ 64 → k < 64
-exponent-fits k h = grind (arith, pow_mono {i = 64} {j = k})
-
 -- one more element made from its index
 pub made-more : {X : Type 0} (f : ℕ → X) (items after : List X) (i : ℕ) (x : X) → items ≡ map f (range_with_len 0 i) → x ≡ f i → after ≡ items ++ x ∷ [] → after ≡ map f (range_with_len 0 (i + 1))
 made-more f items after i x before is made =

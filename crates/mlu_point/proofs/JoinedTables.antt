@@ -80,7 +80,7 @@ module _ {R : Type 0} (ring : Ring R) (laws : RingLaws ring) where
       ∙ ap (map (λ w. s ⊗ w)) (sym (ap (weights_by order ring) is ∙ weights_by-joined order high low))
 
   pub length-weights_by : (order : BitOrder) (p : List R) → length (weights_by order ring p) ≡ 2 ^ length p
-  length-weights_by Msb p = length-weights ring laws p
+  length-weights_by Msb p = length-weights ring p
   length-weights_by Lsb p = length-lsb ring laws p
 
   -- a chunk for each weight of the high coordinates

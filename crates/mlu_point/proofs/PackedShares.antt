@@ -49,8 +49,8 @@ module _ {P V C : Type 0} (width : ℕ) (lanes : P → List V) (packed : Ring P)
         let p = column ring (map image last) (length s) i in
         let inside : k < 2 ^ length p = subst (λ n. k < 2 ^ n) (sym (rows_last i)) (subst (λ n. k < n) power below) in
         ap (λ l. get_or l k 𝟘) (are i q)
-        ∙ get_or-map (λ t. get_or s i 𝟘 ⊗ t) (weights ring p) k 𝟘 𝟘 (subst (λ n. k < n) (sym (length-weights ring laws p)) inside)
-        ∙ ap (λ t. get_or s i 𝟘 ⊗ t) (get_or-weights ring laws p k inside)
+        ∙ get_or-map (λ t. get_or s i 𝟘 ⊗ t) (weights ring p) k 𝟘 𝟘 (subst (λ n. k < n) (sym (length-weights ring p)) inside)
+        ∙ ap (λ t. get_or s i 𝟘 ⊗ t) (get_or-weights ring p k inside)
 
     -- what one point adds to lane k of group x
     one_point : (x k i : ℕ) (below : k < width) → i < length s

@@ -61,13 +61,6 @@ module _ {A : Type 0} where
       get_or-pairs xs n i d (omega arith) (omega arith)
       ∙ sym (both (ap (λ k. get_or (a ∷ b ∷ xs) k d.0) first) (ap (λ k. get_or (a ∷ b ∷ xs) k d.1) second))
 
-  -- the lanes of pairs, in order
-  pub logical-pairs : {V : Type 0} (lanes : A → List V) (xs : List A) (n : ℕ) → length xs ≡ 2 * n → logical (pair_lanes lanes) (pairs xs) ≡ logical lanes xs
-  logical-pairs lanes [] n h = refl
-  logical-pairs lanes (a ∷ []) n h = absurd (omega arith)
-  logical-pairs lanes (a ∷ b ∷ xs) zero h = absurd (omega arith)
-  logical-pairs lanes (a ∷ b ∷ xs) (suc n) h = ap (λ vs. (lanes a ++ lanes b) ++ vs) (logical-pairs lanes xs n (omega arith)) ∙ append_assoc (lanes a) (lanes b) (logical lanes xs)
-
 module _ {A : Type 0} where
   pub length-fours : (xs : List A) (n : ℕ) → length xs ≡ 4 * n → length (pairs (pairs xs)) ≡ n
   length-fours xs n h = length-pairs (pairs xs) n (length-pairs xs (2 * n) (omega (arith, h)))

@@ -95,14 +95,14 @@ module _ {R : Type 0} (ring : Ring R) (laws : RingLaws ring) where
   end_of Wrap p r = carry_of ring p r
 
   last-row : (rule : Successor) (p r : List R) → length p ≡ length r → weight ring p (2 ^ length p - 1) ⊗ weight ring r (after_last rule (length (weights ring p))) ≡ end_of rule p r
-  last-row RepeatLast p r same = ap (λ n. weight ring p (2 ^ length p - 1) ⊗ weight ring r (n - 1)) (length-weights ring laws p ∙ ap (λ n. 2 ^ n) same) ∙ last-last ring laws p r same
+  last-row RepeatLast p r same = ap (λ n. weight ring p (2 ^ length p - 1) ⊗ weight ring r (n - 1)) (length-weights ring p ∙ ap (λ n. 2 ^ n) same) ∙ last-last ring laws p r same
   last-row Wrap p r same = last-first ring laws p r same
 
   -- the steps that end below the top, with that of the last row
   pub steps-value : (rule : Successor) (p r : List R) (done end : R) → length p ≡ length r → done ≡ done_of ring p r → end ≡ end_of rule p r → done ⊕ end ≡ value ring (next_by rule ring (weights ring p)) r
   steps-value rule p r done end same at_done at_end =
       let n = length (weights ring p) in
-      let some : 0 < length (weights ring p) = omega (arith, length-weights ring laws p, pow_pos (length p)) in
+      let some : 0 < length (weights ring p) = omega (arith, length-weights ring p, pow_pos (length p)) in
       ap (λ t. t ⊕ end) at_done
       ∙ ap (λ t. done_of ring p r ⊕ t) (at_end ∙ sym (last-row rule p r same))
       ∙ sym (value-pushed ring laws (successor_by rule n) p r (after_last rule n) same (rule-step rule n some))

@@ -1,5 +1,5 @@
 -- Tables in both orders.
-use Rattle.std.proofs.Common.{◌≡◌, suc, ◌^◌, List, [], ◌∷◌, ◌++◌, map, length, set, refl, sym, ap, arith, length-append}
+use Rattle.std.proofs.Common.{◌≡◌, ◌^◌, List, [], ◌∷◌, ◌++◌, map, length, set, refl, sym, ap, arith}
 use Rattle.std.proofs.lemmas.List.{map-append}
 use Rattle.mlu_ring.specs.Ring.{Ring, RingLaws}
 use Rattle.mlu_ring.proofs.Rings.{product_one}
@@ -9,11 +9,7 @@ use Rattle.mlu_point.specs.declared.point.order.BitOrder.{BitOrder}
 use Rattle.mlu_point.specs.declared.point.order.BitOrder.TheVariants.{Msb, Lsb}
 use Rattle.mlu_point.specs.Orders.{weights_by, with_top}
 
-pub length-with_top : {R : Type 0} (order : BitOrder) (c : R) (p : List R) → length (with_top order c p) ≡ suc (length p)
-length-with_top Msb c p = refl
-length-with_top Lsb c p = omega (arith, length-append p (c ∷ []))
-
--- its images
+-- the images of a point with one coordinate more
 pub map-with_top : {C R : Type 0} (f : C → R) (order : BitOrder) (c : C) (p : List C) → map f (with_top order c p) ≡ with_top order (f c) (map f p)
 map-with_top f Msb c p = refl
 map-with_top f Lsb c p = map-append f p (c ∷ [])

@@ -3,7 +3,8 @@
 ghost use Rattle.std.specs.Prelude.{◌≡◌, ◌+◌, ◌*◌, ◌/◌, ◌<◌, ◌≤◌, ◌^◌, drop, length, map, take};
 ghost use Rattle.mlu_ring.specs.Lanes.{logical};
 ghost use Rattle.mlu_ring.specs.Matrices.{left_by};
-ghost use Rattle.mlu_point.specs.Batches.{column_weights, four_lanes, packed_batch, pair_lanes, share_places, two_pairs, with_batch, ArePacked};
+ghost use Rattle.mlu_point.specs.Batches.{column_weights, share_places, ArePacked};
+ghost use Rattle.mlu_point.specs.Batches.{four_lanes, packed_batch, pair_lanes, two_pairs, with_batch};
 
 use super::evaluator::{InLanes, PackedEvaluator};
 use super::fours::{FOUR, split_fours, sum_of_fours};
@@ -162,7 +163,7 @@ fn write_or_add_four<F: Field, EF: ExtensionField<F>, const INITIALIZED: bool>(
     write_or_add_two::<F, EF, INITIALIZED>(high, values.2, values.3);
 }
 
-/// The same of two values.
+/// [`write_or_add_four`] of two values.
 #[inline]
 fn write_or_add_two<F: Field, EF: ExtensionField<F>, const INITIALIZED: bool>(
     out: &mut [EF],
@@ -178,7 +179,7 @@ fn write_or_add_two<F: Field, EF: ExtensionField<F>, const INITIALIZED: bool>(
     write_or_add_group::<F, EF, INITIALIZED>(high, second);
 }
 
-/// The same of one value.
+/// [`write_or_add_four`] of one value.
 #[inline]
 fn write_or_add_group<F: Field, EF: ExtensionField<F>, const INITIALIZED: bool>(
     out: &mut [EF],

@@ -1,5 +1,6 @@
 //! Points made from a number or an element, and values at a point that need no table.
-ghost use Rattle.std.specs.Prelude.{◌≡◌, ◌+◌, ◌-◌, ◌*◌, ◌^◌, ◌<◌, ◌≤◌, ◌++◌, [], length, map, flat_map, slice_index_or, EachIndex, IfOk, IsOk, if◌then◌else◌};
+ghost use Rattle.std.specs.Prelude.{◌≡◌, ◌+◌, ◌-◌, ◌*◌, ◌^◌, ◌<◌, ◌≤◌, ◌++◌, []};
+ghost use Rattle.std.specs.Prelude.{length, map, flat_map, slice_index_or, EachIndex, IfOk, IsOk, if◌then◌else◌};
 ghost use Rattle.std.specs.Vec.{vec_capacity, vec_len};
 ghost use Rattle.mlu_ring.specs.Tables.{weights, value, vertex, powers};
 ghost use Rattle.mlu_ring.specs.Matrices.{dimension, transposed};
@@ -62,7 +63,7 @@ impl<F: Field> Point<F> {
     }
 
     /// The value at the point of the images of `1, var, var^2, ..`, the first `2^n` powers of
-    /// `var`.
+    /// `var`, where the point has `n` coordinates: the last one reads the lowest bit of the power.
     pub fn eval_select<EF: ExtensionField<F>>(var: F, point: &[EF]) -> EF
         ensures { result ≡ value EF.ring (map EF.embed (powers_below F.ring var (2 ^ length point.now))) point.now }
     {

@@ -1,5 +1,6 @@
 //! Points that own their coordinates.
-ghost use Rattle.std.specs.Prelude.{◌≡◌, ◌+◌, ◌-◌, ◌^◌, ◌<◌, ◌≤◌, ◌++◌, [], length, map, take, drop, reverse, slice_index_or, slice_range, is_ok, if◌then◌else◌, IfOk, IsOk, OnErr};
+ghost use Rattle.std.specs.Prelude.{◌≡◌, ◌+◌, ◌-◌, ◌^◌, ◌<◌, ◌≤◌, ◌++◌, [], length, map, take, drop, reverse};
+ghost use Rattle.std.specs.Prelude.{slice_index_or, slice_range, is_ok, if◌then◌else◌, IfOk, IsOk, OnErr};
 ghost use Rattle.std.specs.declared.alloc.Global.{Global};
 ghost use Rattle.std.specs.Cmp.Lexicographic.{pointwise, lists_per, lists_equiv};
 ghost use Rattle.std.specs.Slice.Iter.{iter_rest, iter_steps};

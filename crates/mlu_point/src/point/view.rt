@@ -229,7 +229,7 @@ impl<F: Field> PointView<'_, F> {
     ghost use Rattle.mlu_point.specs.Views.{coordinates};
 
     /// The weights of all vertices by their indexes: coordinate 0 reads the highest bit. Asks that
-    /// `2^n` fits `usize`.
+    /// `2^n` fits `usize`, where there are `n` coordinates.
     ///
     /// # Errors
     /// Where the one allocation of exactly `2^n` elements is refused.
@@ -242,7 +242,7 @@ impl<F: Field> PointView<'_, F> {
     }
 
     /// The weights of all vertices in the order of their reversed index bits: coordinate 0 reads
-    /// the lowest bit. Asks that `2^n` fits `usize`.
+    /// the lowest bit. Asks that `2^n` fits `usize`, where there are `n` coordinates.
     ///
     /// # Errors
     /// Where the one allocation of exactly `2^n` elements is refused.
@@ -254,7 +254,8 @@ impl<F: Field> PointView<'_, F> {
         equality_table(alloc, self.coords, BitOrder::Lsb)
     }
 
-    /// The weight of the vertex, and `None` exactly where the vertex is `2^n` or more.
+    /// The weight of a vertex by its index, whose highest bit coordinate 0 reads. `None` exactly
+    /// where the vertex is `2^n` or more, where there are `n` coordinates.
     pub fn equality_at_vertex(&self, vertex: usize) -> Option<F>
         ensures { IsWeightAt F.ring (coordinates self.now) vertex result }
     {
