@@ -1,6 +1,7 @@
 pub mod Accumulations
 pub mod Borders
 pub mod Compressions
+pub mod Constants
 pub mod Contents
 pub mod Evaluations
 pub mod Folds

@@ -1,5 +1,5 @@
 -- Tables kept in two halves.
-use Rattle.std.specs.Prelude.{◌≡◌, ℕ, ◌+◌, ◌-◌, ◌*◌, ◌/◌, ◌%◌, ◌<◌, ◌≤◌, List, map, length, take, drop, slice_index_or}
+use Rattle.std.specs.Prelude.{◌≡◌, ℕ, [], ◌∷◌, ◌+◌, ◌-◌, ◌*◌, ◌/◌, ◌%◌, ◌<◌, ◌≤◌, List, map, length, take, drop, slice_index_or}
 use Rattle.std.specs.Borrow.{RattleType}
 use Rattle.std.specs.List.{range_with_len}
 use Rattle.std.specs.Mem.{type_size}
@@ -70,3 +70,11 @@ AddsPackedTable ring lanes scale eq0 weights old new = AddsScaled ring lanes sca
 -- the places are whole packings, so many at most, which take few bytes
 abbrev pub FillPackings : ℕ → ℕ → ℕ → RattleType → Type 0
 FillPackings width places most packing = (places ≡ places / width * width) × (places / width ≤ most) × (type_size packing < SMALL_BYTES)
+
+-- the elements that have these coefficients, one each
+abbrev pub constants : {B E : Type 0} → (List B → E) → List B → List E
+constants of_coefficients column = map (λ c. of_coefficients (c ∷ [])) column
+
+-- weights of one coefficient, so many at most, which take few bytes
+abbrev pub AreConstants : ℕ → ℕ → ℕ → RattleType → Type 0
+AreConstants dimension weights most base = (dimension ≡ 1) × (weights ≤ most) × (type_size base < SMALL_BYTES)

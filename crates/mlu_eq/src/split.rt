@@ -5,6 +5,7 @@
 //! has at most 128 packed entries.
 
 pub(crate) mod accumulate;
+mod constants;
 mod dot;
 mod prefix;
 pub mod runs;

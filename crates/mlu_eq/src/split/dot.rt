@@ -6,6 +6,7 @@ ghost use Rattle.mlu_ring.specs.Tables.{pair};
 ghost use Rattle.mlu_kernel.specs.Kernels.{double_sum, HasDot};
 ghost use Rattle.mlu_eq.specs.Split.{contents, packed_pair};
 
+use super::constants::{FEW_WEIGHTS, MOST_WEIGHTS, are_constants, dot_of_rows_by_constants};
 use crate::half::{EqMaybePacked, Weights};
 use mlu_kernel::one_row::lane_sum;
 use mlu_kernel::{compress_hi_dot_packed, compress_hi_dot_packed_eager};
@@ -104,6 +105,24 @@ fn packed_dot<F: Field, EF: ExtensionField<F>>(
 
 /// The sum of the rows' dots with `weights`, each times its entry of `eq0`.
 fn dot_of_rows<F: Field, EF: ExtensionField<F>>(eq0: &[EF], weights: &[EF], entries: &[F]) -> EF
+    requires { length entries.now ≡ length eq0.now * length weights.now }
+    ensures { result ≡ double_sum EF.ring eq0.now weights.now (map EF.embed entries.now) }
+{
+    if are_constants::<F, EF>(weights.len(), FEW_WEIGHTS) {
+        dot_of_rows_by_constants::<F, EF, FEW_WEIGHTS>(eq0, weights, entries)
+    } else if are_constants::<F, EF>(weights.len(), MOST_WEIGHTS) {
+        dot_of_rows_by_constants::<F, EF, MOST_WEIGHTS>(eq0, weights, entries)
+    } else {
+        dot_of_rows_by_groups(eq0, weights, entries)
+    }
+}
+
+/// [`dot_of_rows`], four products at a time.
+fn dot_of_rows_by_groups<F: Field, EF: ExtensionField<F>>(
+    eq0: &[EF],
+    weights: &[EF],
+    entries: &[F],
+) -> EF
     requires { length entries.now ≡ length eq0.now * length weights.now }
     ensures { result ≡ double_sum EF.ring eq0.now weights.now (map EF.embed entries.now) }
 {

@@ -4,7 +4,7 @@ use Rattle.mlu_ring.specs.Tables.{pair}
 use Rattle.mlu_kernel.specs.Kernels.{double_sum}
 use Rattle.mlu_kernel.proofs.DoubleSums.{double_sum-none, double_sum_step}
 use Rattle.mlu_eq.proofs.RowsMapped.{row-map}
-use Rattle.mlu_eq.proofs.split.dot.dot_of_rows.Goals as goal
+use Rattle.mlu_eq.proofs.split.dot.dot_of_rows_by_groups.Goals as goal
 
 pub loop-j-init : goal.loop-j-init
 loop-j-init g c =
