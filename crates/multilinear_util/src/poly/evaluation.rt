@@ -23,6 +23,10 @@ const SMALL_BYTES: usize = 4;
 /// entries and the coefficients of their weights are a row and a matrix, whose product is reduced once.
 const COEFFICIENTS: usize = 4;
 
+/// The most variables of a table whose second half has its weights read to the stack, where these have
+/// one coefficient: then a row is a dot of base elements.
+const MOST_VARIABLES: usize = 20;
+
 /// The number of variables from which a split table serves better than the recursion, which takes
 /// no memory.
 #[inline]
@@ -30,6 +34,12 @@ fn recursion_threshold(bytes: usize) -> usize
     ensures { result ≡ threshold bytes }
 {
     if bytes <= SMALL_BYTES { 9 } else { 10 }
+}
+
+/// Whether base entries of so many variables meet scalar weights faster than packed ones.
+#[inline]
+fn takes_scalars<F: Field, EF: ExtensionField<F>>(variables: usize) -> bool {
+    EF::DIMENSION == COEFFICIENTS || EF::DIMENSION == 1 && variables <= MOST_VARIABLES
 }
 
 /// The split table of the point, in the form that serves base entries better. Asks that the weights of
@@ -42,7 +52,7 @@ fn split_for_base<F: Field, EF: ExtensionField<F>>(
     ensures value { IfOk result (λ split. split_entries EF.ring split ≡ map (EF.ring.product EF.ONE) (weights EF.ring point.now)) }
     ensures size { IfOk result (λ split. length (split_entries EF.ring split) ≡ 2 ^ length point.now) }
 {
-    if EF::DIMENSION == COEFFICIENTS {
+    if takes_scalars::<F, EF>(point.num_variables()) {
         return SplitEq::new_unpacked(alloc, point, EF::ONE);
     }
     SplitEq::new_packed(alloc, point, EF::ONE)
