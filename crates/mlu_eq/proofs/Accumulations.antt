@@ -4,11 +4,11 @@ use Rattle.std.specs.Simd.Lanes.{zip2}
 use Rattle.std.proofs.Math.Nat.{mul_assoc}
 use Rattle.std.proofs.lemmas.Grind.{flat_map-append}
 use Rattle.std.proofs.lemmas.List.{length-map, take-map, drop-map, map-append}
-use Rattle.std.proofs.lemmas.Simd.{zip2_splat_left}
 use Rattle.mlu_ring.specs.Ring.{Ring}
 use Rattle.mlu_ring.specs.Lanes.{IsLists, IsLaneByLane, logical}
 use Rattle.mlu_ring.proofs.Logical.{block-logical, take-logical, drop-logical}
 use Rattle.mlu_ring.proofs.Zips.{zip2-append}
+use Rattle.mlu_kernel.proofs.PlusRows.{lanes-splat_product}
 
 module _ {P V : Type 0} (lanes : P → List V) (n : ℕ) (long : (p : P) → length (lanes p) ≡ n) where
   -- the lanes of values of which block i of m is written: the loop counts the block as end less start
@@ -38,9 +38,6 @@ module _ {P V : Type 0} (lanes : P → List V) (n : ℕ) (long : (p : P) → len
       ∙ ap (λ vs. take n vs) (sym (drop-map f (i * n) (logical lanes ps)))
 
 module _ {P V : Type 0} (packed : Ring P) (ring : Ring V) (lanes : P → List V) (of_lanes : List V → P) (n : ℕ) (parts : IsLists n lanes of_lanes) (each : IsLaneByLane n lanes packed ring) where
-  lanes-splat_product : (q b : P) (x : V) → lanes q ≡ replicate n x → lanes (packed.product q b) ≡ map (ring.product x) (lanes b)
-  lanes-splat_product q b x is = each.product q b ∙ ap (λ vs. zip2 ring.product vs (lanes b)) is ∙ zip2_splat_left ring.product x n (lanes b) (parts.length-parts b)
-
   -- the lanes of values to which multiples of others are added
   pub logical-added : (ps ws : List P) (q : P) (x : V) → lanes q ≡ replicate n x → length ps ≡ length ws
       → logical lanes (zip2 packed.sum ps (map (packed.product q) ws)) ≡ zip2 ring.sum (logical lanes ps) (map (ring.product x) (logical lanes ws))
@@ -49,7 +46,7 @@ module _ {P V : Type 0} (packed : Ring P) (ring : Ring V) (lanes : P → List V)
   logical-added (p ∷ ps) [] q x is h = absurd (omega arith)
   logical-added (p ∷ ps) (w ∷ ws) q x is h =
       let same = parts.length-parts p ∙ sym (length-map (lanes w) (ring.product x) ∙ parts.length-parts w) in
-      ap (λ vs. vs ++ logical lanes (zip2 packed.sum ps (map (packed.product q) ws))) (each.sum p (packed.product q w) ∙ ap (λ vs. zip2 ring.sum (lanes p) vs) (lanes-splat_product q w x is))
+      ap (λ vs. vs ++ logical lanes (zip2 packed.sum ps (map (packed.product q) ws))) (each.sum p (packed.product q w) ∙ ap (λ vs. zip2 ring.sum (lanes p) vs) (lanes-splat_product packed ring lanes of_lanes n parts each q w x is))
       ∙ ap (λ vs. zip2 ring.sum (lanes p) (map (ring.product x) (lanes w)) ++ vs) (logical-added ps ws q x is (omega arith))
       ∙ sym (zip2-append ring.sum (lanes p) (logical lanes ps) (map (ring.product x) (lanes w)) (map (ring.product x) (logical lanes ws)) same)
       ∙ ap (λ vs. zip2 ring.sum (lanes p ++ logical lanes ps) vs) (sym (map-append (ring.product x) (lanes w) (logical lanes ws)))
@@ -57,7 +54,7 @@ module _ {P V : Type 0} (packed : Ring P) (ring : Ring V) (lanes : P → List V)
   -- one packed weight, times x
   pub lanes-multiplied : (q w : P) (ws : List P) (i : ℕ) (x : V) → i < length ws → w ≡ get_or ws i w → lanes q ≡ replicate n x
       → lanes (packed.product q w) ≡ take n (drop (i * n) (map (ring.product x) (logical lanes ws)))
-  lanes-multiplied q w ws i x h at_w is = lanes-splat_product q w x is ∙ map-logical_block lanes n parts.length-parts (ring.product x) ws i w h at_w
+  lanes-multiplied q w ws i x h at_w is = lanes-splat_product packed ring lanes of_lanes n parts each q w x is ∙ map-logical_block lanes n parts.length-parts (ring.product x) ws i w h at_w
 
   -- and added to a group
   pub lanes-added : (group q w : P) (ws : List P) (i : ℕ) (x : V) → i < length ws → w ≡ get_or ws i w → lanes q ≡ replicate n x

@@ -1,6 +1,5 @@
 -- Tables compressed by a split table: rows added up by groups, and rows paired one by one.
-use Rattle.std.proofs.Common.{◌≡◌, ℕ, zero, suc, ◌+◌, ◌*◌, ◌/◌, ◌^◌, ◌<◌, List, [], ◌∷◌, ◌++◌, map, length, take, drop, set, get_or, replicate, refl, sym, subst, ap, ◌∙◌, arith}
-use Rattle.std.proofs.Math.Seq.{take-append_seam}
+use Rattle.std.proofs.Common.{◌≡◌, ℕ, zero, suc, ◌+◌, ◌*◌, ◌/◌, ◌^◌, ◌<◌, List, [], ◌∷◌, map, length, take, drop, set, get_or, replicate, refl, sym, subst, ap, ◌∙◌, arith}
 use Rattle.std.proofs.Math.Nat.{mul_assoc, mul-div_cancel, mul-div_cancel_left, zero-div}
 use Rattle.std.proofs.lemmas.List.{ext_get_or, get_or-drop, length-map, length-replicate, length-take-le}
 use Rattle.std.proofs.lemmas.Nat.{pow_pos}
@@ -17,10 +16,10 @@ use Rattle.mlu_ring.proofs.SumsBelow.{sum_below-same}
 use Rattle.mlu_ring.proofs.Totals.{pair-take}
 use Rattle.mlu_ring.proofs.Univariate.{length-front}
 use Rattle.mlu_kernel.specs.Kernels.{dots_of_rows, plus_rows}
-use Rattle.mlu_kernel.proofs.PlusRows.{length-plus_rows, plus_rows-append, plus_rows-front}
+use Rattle.mlu_kernel.proofs.PlusRows.{plus_rows-append, plus_rows-front}
 use Rattle.mlu_eq.specs.Split.{contents}
 use Rattle.mlu_eq.proofs.Contents.{length-contents, contents-take_more}
-use Rattle.mlu_eq.proofs.Lengths.{positive_product}
+use Rattle.std.proofs.Math.Nat.{mul-pos}
 use Rattle.mlu_eq.proofs.Zipped.{added_once, zip_zeros}
 
 -- one more place is written
@@ -97,15 +96,6 @@ module _ {B R : Type 0} (ring : Ring R) (laws : RingLaws ring) (embed : B → R)
       (length-map e embed ∙ size ∙ ap (λ m. m * n) (sym long))
       (made ∙ ap (λ x. plus_rows ring zeros (moved x) (map embed values)) shown ∙ ap (λ v. plus_rows ring zeros (moved t) (map embed v)) is)
 
-  -- .. and are then the whole output
-  pub compressed_into : (old zeros new : List R) → zeros ≡ old → old ≡ replicate n ring.zero → new ≡ plus_rows ring zeros (moved c) (map embed values)
-      → take (length old) (new ++ drop (length new) old) ≡ front ring (moved t) (map embed e)
-  compressed_into old zeros new whole zeroed made =
-      let count : length old ≡ length new = ap length (sym whole) ∙ sym (ap length made ∙ length-plus_rows ring laws zeros _ _) in
-      ap (λ m. take m (new ++ drop (length new) old)) count
-      ∙ take-append_seam new (drop (length new) old)
-      ∙ compressed zeros new (whole ∙ zeroed) made
-
 -- the dots of all rows with packed weights
 pub back_of_row_dots : {P B R : Type 0} (ring : Ring R) (lanes : P → List R) (f : B → R) (n l : ℕ) (ws : List P) (entries : List B) (out new : List R) → RingLaws ring → ((p : P) → length (lanes p) ≡ n) → n ≡ 2 ^ l → 0 < length ws
     → length entries ≡ length out * (length ws * n) → new ≡ dots_of_rows ring (logical lanes ws) (map f entries) (length out) → new ≡ back ring (logical lanes ws) (map f entries)
@@ -117,7 +107,7 @@ back_of_row_dots ring lanes f n l ws entries out new laws long width some size m
     let wide = subst (λ k. 0 < k) (sym width) (pow_pos l) in
     made
     ∙ back_of_dots ring laws table e (dots_of_rows ring table e m) m
-    (subst (λ k. 0 < k) (sym many) (positive_product (length ws) n some wide))
+    (subst (λ k. 0 < k) (sym many) (mul-pos some wide))
     (length-map entries f ∙ size ∙ ap (λ k. m * k) (sym many))
     (length-tabulate m (λ y. pair ring table (row_at (length table) e y)))
     (λ k d h. get_or-tabulate m (λ y. pair ring table (row_at (length table) e y)) k d h)

@@ -8,19 +8,14 @@ use Rattle.mlu_ring.specs.Ring.{Ring, RingLaws, IsRingMap}
 use Rattle.mlu_ring.specs.Sums.{sum_below}
 use Rattle.mlu_ring.specs.Tables.{weight, weights, pair}
 use Rattle.mlu_ring.specs.Lanes.{logical}
-use Rattle.mlu_ring.proofs.Joined.{weight-joined}
+use Rattle.mlu_ring.proofs.Joined.{weight-joined, length-weights, get_or-weights}
+use Rattle.mlu_ring.proofs.Rows.{place-within}
 use Rattle.mlu_ring.proofs.SumsBelow.{sum_below-same, sum_below-rows}
 use Rattle.mlu_ring.proofs.Logical.{block-logical, logical-take_more}
 use Rattle.mlu_ring.proofs.Pairs.{read-map}
 use Rattle.mlu_kernel.specs.Kernels.{double_sum}
 use Rattle.mlu_eq.specs.Split.{contents}
 use Rattle.mlu_eq.proofs.Groups.{flat_map-runs}
-
-within : (y m z s : ℕ) → y < m → z < s → y * s + z < m * s
-within y m z s h q =
-    let le : y + 1 ≤ m = omega arith in
-    let step : (y + 1) * s ≤ m * s = mul-le-mul_right s le in
-    omega arith
 
 -- the row and the column of an index
 row_below : (x m n : ℕ) → x < m * n → x / n < m
@@ -47,7 +42,7 @@ module _ {R : Type 0} (ring : Ring R) where
   pub get_or-contents_row : (eq0 w : List R) (y z : ℕ) → y < length eq0 → z < length w → get_or (contents ring eq0 w) (y * length w + z) 𝟘 ≡ get_or eq0 y 𝟘 ⊗ get_or w z 𝟘
   get_or-contents_row eq0 w y z h q =
       let n = length w in
-      get_or-contents eq0 w (y * n + z) (within y (length eq0) z n h q)
+      get_or-contents eq0 w (y * n + z) (place-within y (length eq0) z n h q)
       ∙ ap (λ k. get_or eq0 k 𝟘 ⊗ get_or w ((y * n + z) % n) 𝟘) (div-mul-add y n z q)
       ∙ ap (λ k. get_or eq0 y 𝟘 ⊗ get_or w k 𝟘) (mod-mul-add y n z q)
 
@@ -125,24 +120,16 @@ module _ {R : Type 0} (ring : Ring R) (laws : RingLaws ring) where
       (ap (λ c. take n (drop (j * n) c)) (sym (contents-scale eq0 w s))
       ∙ block-contents ring (map (ring.product s) eq0) w j (s ⊗ x) place (read-map (ring.product s) eq0 j x at_x))
 
-  length-weights : (p : List R) → length (weights ring p) ≡ 2 ^ length p
-  unfolding weights
-  length-weights p = length-map-range_with_len (weight ring p) 0 (2 ^ length p)
-
-  get_or-weights : (p : List R) (x : ℕ) → x < 2 ^ length p → get_or (weights ring p) x 𝟘 ≡ weight ring p x
-  unfolding weights
-  get_or-weights p x h = get_or-map-range_with_len (weight ring p) 0 (2 ^ length p) x x 𝟘 h (omega arith)
-
   -- the weights at a joined point, in two halves
   pub contents-weights : (a b : List R) (s : R) → contents ring (map (ring.product s) (weights ring a)) (weights ring b) ≡ map (ring.product s) (weights ring (a ++ b))
   contents-weights a b s =
       let n = 2 ^ length b in
       let first = map (ring.product s) (weights ring a) in
-      let rows : length (map (ring.product s) (weights ring a)) ≡ 2 ^ length a = length-map (weights ring a) (ring.product s) ∙ length-weights a in
+      let rows : length (map (ring.product s) (weights ring a)) ≡ 2 ^ length a = length-map (weights ring a) (ring.product s) ∙ length-weights ring a in
       let size : length (contents ring (map (ring.product s) (weights ring a)) (weights ring b)) ≡ 2 ^ length a * 2 ^ length b =
-      length-contents ring first (weights ring b) ∙ ap (λ k. k * length (weights ring b)) rows ∙ ap (λ k. 2 ^ length a * k) (length-weights b) in
+      length-contents ring first (weights ring b) ∙ ap (λ k. k * length (weights ring b)) rows ∙ ap (λ k. 2 ^ length a * k) (length-weights ring b) in
       let joined : 2 ^ length a * 2 ^ length b ≡ 2 ^ length (a ++ b) = sym (pow-add 2 (length a) (length b)) ∙ ap (λ k. 2 ^ k) (sym (length-append a b)) in
-      let other : length (map (ring.product s) (weights ring (a ++ b))) ≡ 2 ^ length (a ++ b) = length-map (weights ring (a ++ b)) (ring.product s) ∙ length-weights (a ++ b) in
+      let other : length (map (ring.product s) (weights ring (a ++ b))) ≡ 2 ^ length (a ++ b) = length-map (weights ring (a ++ b)) (ring.product s) ∙ length-weights ring (a ++ b) in
       ext_get_or 𝟘 (contents ring first (weights ring b)) (map (ring.product s) (weights ring (a ++ b))) (size ∙ joined ∙ sym other)
       (λ x h.
       let place : x < 2 ^ length a * 2 ^ length b = omega (arith, size) in
@@ -150,12 +137,12 @@ module _ {R : Type 0} (ring : Ring R) (laws : RingLaws ring) where
       let row : x / 2 ^ length b < 2 ^ length a = row_below x (2 ^ length a) (2 ^ length b) place in
       let column : x % 2 ^ length b < 2 ^ length b = column_below x (2 ^ length a) (2 ^ length b) place in
       get_or-contents ring first (weights ring b) x (omega (arith, length-contents ring first (weights ring b)))
-      ∙ ap (λ k. get_or first (x / k) 𝟘 ⊗ get_or (weights ring b) (x % k) 𝟘) (length-weights b)
-      ∙ ap (λ t. t ⊗ get_or (weights ring b) (x % n) 𝟘) (get_or-map (ring.product s) (weights ring a) (x / n) 𝟘 𝟘 (omega (arith, length-weights a)) ∙ ap (ring.product s) (get_or-weights a (x / n) row))
-      ∙ ap (λ t. (s ⊗ weight ring a (x / n)) ⊗ t) (get_or-weights b (x % n) column)
+      ∙ ap (λ k. get_or first (x / k) 𝟘 ⊗ get_or (weights ring b) (x % k) 𝟘) (length-weights ring b)
+      ∙ ap (λ t. t ⊗ get_or (weights ring b) (x % n) 𝟘) (get_or-map (ring.product s) (weights ring a) (x / n) 𝟘 𝟘 (omega (arith, length-weights ring a)) ∙ ap (ring.product s) (get_or-weights ring a (x / n) row))
+      ∙ ap (λ t. (s ⊗ weight ring a (x / n)) ⊗ t) (get_or-weights ring b (x % n) column)
       ∙ laws.product_assoc s (weight ring a (x / n)) (weight ring b (x % n))
       ∙ ap (ring.product s) (sym (weight-joined ring laws a b (x / n) (x % n) column) ∙ ap (weight ring (a ++ b)) (div-add-mod' x n))
-      ∙ sym (get_or-map (ring.product s) (weights ring (a ++ b)) x 𝟘 𝟘 (omega (arith, length-weights (a ++ b))) ∙ ap (ring.product s) (get_or-weights (a ++ b) x whole)))
+      ∙ sym (get_or-map (ring.product s) (weights ring (a ++ b)) x 𝟘 𝟘 (omega (arith, length-weights ring (a ++ b))) ∙ ap (ring.product s) (get_or-weights ring (a ++ b) x whole)))
 
 module _ {B R : Type 0} (base : Ring B) (ring : Ring R) (f : B → R) (keeps : IsRingMap base ring f) where
   -- the images of a row

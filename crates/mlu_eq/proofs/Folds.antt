@@ -33,12 +33,6 @@ module _ {R : Type 0} (ring : Ring R) (laws : RingLaws ring) where
       let same : length (map f es) / 2 ≡ length es / 2 = ap (λ n. n / 2) (length-map es f) in
       is ∙ front_of_reads u c (map f es) z (f a) (f b) d (omega (arith, same)) (read-map f es z a at_a) (rw same (read-map f es (length es / 2 + z) b at_b))
 
-  -- a table that was filled with the entries of the fold
-  pub front_filled : {B : Type 0} (f : B → R) (u c : R) (es : List B) (half : ℕ) (ys : List R) → half ≡ length es / 2 → length ys ≡ half → ((k : ℕ) (d : R) → k < half → get_or ys k d ≡ get_or (front ring (u ∷ c ∷ []) (map f es)) k d) → ys ≡ front ring (u ∷ c ∷ []) (map f es)
-  front_filled f u c es half ys is long at =
-      let same : length (map f es) / 2 ≡ half = ap (λ n. n / 2) (length-map es f) ∙ sym is in
-      ext_get_or 𝟘 ys (front ring (u ∷ c ∷ []) (map f es)) (long ∙ sym (length-front ring (u ∷ c ∷ []) (map f es) half same)) (λ k h. at k 𝟘 (omega arith))
-
   -- the lower half of a table where the fold was written over it
   pub front_written : (u c : R) (e ys : List R) (half : ℕ) → half ≡ length e / 2 → length ys ≡ length e → ((k : ℕ) (d : R) → k < half → get_or ys k d ≡ combined ring u c (get_or e k d) (get_or e (half + k) d)) → take (length e / 2) ys ≡ front ring (u ∷ c ∷ []) e
   front_written u c e ys half is long at =

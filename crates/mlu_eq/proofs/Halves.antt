@@ -4,12 +4,9 @@ use Rattle.mlu_ring.specs.Lanes.{logical}
 use Rattle.mlu_ring.proofs.Logical.{length-logical}
 use Rattle.mlu_eq.specs.Half.{Half, half_of}
 use Rattle.mlu_eq.specs.declared.half.Stored.{Stored}
-use Rattle.mlu_eq.specs.declared.half.Stored.TheVariants.{Scalar, Packed}
+use Rattle.mlu_eq.specs.declared.half.Stored.TheVariants.{Packed}
 
 module _ {F E Q P O : Type 0} (lanes : P → List E) (half : Half E) (stored : Stored F E Q P O) (is : half_of lanes stored ≡ half) where
-  pub scalar_weights : (ws slice : List E) → stored ≡ Scalar ws → slice ≡ ws → half.weights ≡ slice
-  scalar_weights ws slice form same = sym (ap (λ h. h.weights) is) ∙ ap (λ s. (half_of lanes s).weights) form ∙ sym same
-
   pub packed_weights : (ws slice : List P) → stored ≡ Packed ws → slice ≡ ws → half.weights ≡ logical lanes slice
   packed_weights ws slice form same = sym (ap (λ h. h.weights) is) ∙ ap (λ s. (half_of lanes s).weights) form ∙ ap (logical lanes) (sym same)
 

@@ -1,9 +1,9 @@
 -- The number of weights of a half table, each lane counted.
-use Rattle.std.proofs.Common.{◌≡◌, ℕ, zero, suc, ◌+◌, ◌-◌, ◌*◌, ◌/◌, ◌^◌, ◌<◌, ◌≤◌, List, length, ap, sym, ◌∙◌, subst, pow-add, arith}
+use Rattle.std.proofs.Common.{◌≡◌, ℕ, zero, suc, ◌+◌, ◌-◌, ◌*◌, ◌/◌, ◌^◌, ◌<◌, List, length, ap, sym, ◌∙◌, subst, pow-add, arith}
 use Rattle.std.specs.Prelude.{IsTrue}
 use Rattle.std.specs.Int.{is_power_of_two}
 use Rattle.std.specs.Int.Count.{count_trailing_zeros}
-use Rattle.std.proofs.Math.Nat.{mul_assoc, mul-div_cancel, mul-le-mul_right}
+use Rattle.std.proofs.Math.Nat.{mul_assoc, mul-div_cancel, mul-pos}
 use Rattle.std.proofs.lemmas.Nat.{pow_pos}
 use Rattle.mlu_ring.specs.Lanes.{logical}
 use Rattle.mlu_ring.proofs.Logical.{length-logical}
@@ -21,15 +21,9 @@ power_of_lanes n w l m fits test width is =
 pub positive_of_test : (n : ℕ) → n < 2 ^ 64 → IsTrue (is_power_of_two n) → 0 < n
 positive_of_test n fits test = subst (λ m. 0 < m) (sym (power_of_test n fits test)) (pow_pos (count_trailing_zeros 64 n))
 
-pub positive_product : (m n : ℕ) → 0 < m → 0 < n → 0 < m * n
-positive_product m n h k =
-    let le : 1 ≤ m = omega arith in
-    let rows : 1 * n ≤ m * n = mul-le-mul_right n le in
-    omega arith
-
 pub positive_of_lanes : (n w l : ℕ) → n < 2 ^ 64 → IsTrue (is_power_of_two n) → w ≡ 2 ^ l → 0 < n * w
 positive_of_lanes n w l fits test width =
-    positive_product n w (positive_of_test n fits test) (subst (λ m. 0 < m) (sym width) (pow_pos l))
+    mul-pos (positive_of_test n fits test) (subst (λ m. 0 < m) (sym width) (pow_pos l))
 
 -- rows of whole packed values, counted without their lanes
 pub cancel_width : (a b c w l : ℕ) → w ≡ 2 ^ l → a * w ≡ b * (c * w) → a ≡ b * c

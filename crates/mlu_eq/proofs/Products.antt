@@ -2,12 +2,13 @@
 use Rattle.std.proofs.Common.{◌≡◌, ℕ, ◌+◌, ◌-◌, ◌*◌, ◌<◌, ◌≤◌, List, [], ◌∷◌, ◌++◌, length, take, drop, sym, ap, ◌∙◌, arith}
 use Rattle.std.proofs.Math.Seq.{take-append_seam, drop-append_seam}
 use Rattle.std.proofs.lemmas.List.{length-take-le, length-drop}
-use Rattle.std.proofs.Math.Nat.{mul_assoc, mul-le-mul_right}
+use Rattle.std.proofs.Math.Nat.{mul_assoc}
 use Rattle.mlu_ring.specs.Ring.{Ring, RingLaws}
 use Rattle.mlu_ring.specs.Sums.{sum_of}
 use Rattle.mlu_ring.specs.Tables.{pair}
 use Rattle.mlu_ring.specs.Lanes.{IsLists, IsLaneByLane, logical}
 use Rattle.mlu_ring.proofs.Logical.{take-logical, drop-logical}
+use Rattle.mlu_ring.proofs.Rows.{row_end}
 use Rattle.mlu_ring.proofs.Totals.{pair-nil, pair-cons, pair-append, pair-take, total-zero, total-sum, total-product}
 
 -- block i of v elements, as a loop takes it out of a slice
@@ -16,13 +17,7 @@ block xs i v =
     let many : i * v + v - i * v ≡ v = omega arith in
     ap (λ k. take k (drop (i * v) xs)) many
 
--- the block at row i ends within n rows
-pub row_end : (i n r m : ℕ) → i < n → m ≡ n * r → i * r + r ≤ m
-row_end i n r m h is =
-    let le : i + 1 ≤ n = omega arith in
-    let rows : (i + 1) * r ≤ n * r = mul-le-mul_right r le in
-    omega arith
-
+-- the first of n rows, of which there are some
 pub row_within : (n r m : ℕ) → 0 < n → m ≡ n * r → r ≤ m
 row_within n r m some is = omega (arith, row_end 0 n r m some is)
 

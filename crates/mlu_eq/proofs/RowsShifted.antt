@@ -13,14 +13,14 @@ use Rattle.mlu_ring.proofs.Totals.{pair-take}
 use Rattle.mlu_kernel.specs.Kernels.{dots_of_rows}
 use Rattle.mlu_ring.proofs.Groups.{pair-take_more}
 use Rattle.mlu_eq.proofs.Compressions.{back_of_dots}
-use Rattle.mlu_eq.proofs.Lengths.{positive_product}
-use Rattle.mlu_eq.proofs.Products.{row_end}
+use Rattle.std.proofs.Math.Nat.{mul-pos}
+use Rattle.mlu_ring.proofs.Rows.{row_end}
 
 -- the rows of m + 1 places: those of all but the last, and that one
 pub rows_and_last : (len m f p n v : ℕ) → 0 < p → 0 < n → v ≡ n → f + 1 ≡ m → len ≡ m * (p * n) → (0 < p * v) × (len ≡ f * (p * v) + p * v)
 rows_and_last len m f p n v some wide is more size =
     let row : (f + 1) * (p * v) ≡ f * (p * v) + p * v = omega arith in
-    (subst (λ k. 0 < p * k) (sym is) (positive_product p n some wide), size ∙ ap (λ k. k * (p * n)) (sym more) ∙ ap (λ k. (f + 1) * (p * k)) (sym is) ∙ row)
+    (subst (λ k. 0 < p * k) (sym is) (mul-pos some wide), size ∙ ap (λ k. k * (p * n)) (sym more) ∙ ap (λ k. (f + 1) * (p * k)) (sym is) ∙ row)
 
 module _ {R : Type 0} (ring : Ring R) (laws : RingLaws ring) where
   infixl 50 ◌⊕◌

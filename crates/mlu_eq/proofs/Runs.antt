@@ -3,7 +3,7 @@ use Rattle.std.proofs.Common.{◌≡◌, ℕ, zero, suc, ◌+◌, ◌-◌, ◌*�
 use Rattle.std.specs.Simd.Lanes.{zip2}
 use Rattle.std.specs.Prelude.{min}
 use Rattle.std.specs.Int.{div_ceil}
-use Rattle.std.proofs.Math.Nat.{mul-le-mul_right, mul_assoc, le-min, min-eq_left}
+use Rattle.std.proofs.Math.Nat.{mul-le-mul_right, mul_assoc, le-min, min-eq_left, mul-pos}
 use Rattle.std.proofs.lemmas.Bool.{cases_lt}
 use Rattle.std.proofs.lemmas.Grind.{div_ceil_times}
 use Rattle.std.proofs.Math.Seq.{take-add}
@@ -107,18 +107,13 @@ module _ {R : Type 0} (ring : Ring R) (laws : RingLaws ring) where
       let apart : (start + run) * length w ≡ start * length w + run * length w = omega arith in
       omega (arith, room, apart, length-contents ring eq0 w)
 
-  some_rows : (run n : ℕ) → 0 < run → 0 < n → 0 < run * n
-  some_rows (suc run) (suc n) h q = omega arith
-  some_rows zero n h q = absurd (omega arith)
-  some_rows (suc run) zero h q = absurd (omega arith)
-
   -- the moved weights of a run: before the others stands the one before them
   shifted-run : (eq0 w : List R) (start run : ℕ) → 0 < run → 0 < length w → start + run ≤ length eq0
       → run_of (length w) start run (shifted ring (contents ring eq0 w)) ≡ moved_up (row_weight ring (length w) start (shifted ring (contents ring eq0 w))) (contents ring (take run (drop start eq0)) w)
   shifted-run eq0 w start run some wide h =
       let n = length w in
       let c = contents ring eq0 w in
-      moved_up-slice 𝟘 𝟘 (start * n) (run * n) c (some_rows run n some wide) (within_contents eq0 w start run h)
+      moved_up-slice 𝟘 𝟘 (start * n) (run * n) c (mul-pos some wide) (within_contents eq0 w start run h)
       ∙ ap (moved_up (row_weight ring n start (shifted ring c))) (contents-run ring eq0 w start run)
 
   -- the weight before a run that is not the first: the last one of the entry before it

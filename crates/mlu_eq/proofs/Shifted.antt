@@ -1,20 +1,19 @@
 -- The contents of a split table moved up by one place, by the rows of the first half.
-use Rattle.std.proofs.Common.{◌≡◌, ℕ, zero, suc, ◌+◌, ◌-◌, ◌*◌, ◌<◌, List, [], ◌∷◌, ◌++◌, length, map, get_or, take, drop, replicate, refl, sym, ap, ◌∙◌, arith}
+use Rattle.std.proofs.Common.{◌≡◌, ℕ, zero, suc, ◌+◌, ◌-◌, ◌*◌, ◌<◌, List, [], ◌∷◌, ◌++◌, length, map, get_or, take, drop, refl, sym, ap, ◌∙◌, arith}
 use Rattle.std.proofs.Math.Nat.{le-mul_of_pos_right}
 use Rattle.std.proofs.Math.Seq.{take-append-add, take-append_seam}
 use Rattle.std.proofs.lemmas.List.{length-map, length-append, get_or-map, take-map, take_all, drop-map, length-drop, length-take-le, drop-drop, ext_get_or}
 use Rattle.mlu_ring.specs.Ring.{Ring, RingLaws}
 use Rattle.mlu_ring.specs.Sums.{sum_below}
-use Rattle.mlu_ring.specs.Tables.{front, pair}
+use Rattle.mlu_ring.specs.Tables.{pair}
 use Rattle.mlu_ring.specs.Successor.{shifted}
 use Rattle.mlu_ring.proofs.Rings.{zero_product, sum_zero}
-use Rattle.mlu_ring.proofs.Shifted.{length-moved_up, pair-shifted}
+use Rattle.mlu_ring.proofs.Shifted.{pair-shifted}
 use Rattle.mlu_ring.proofs.SumsBelow.{sum_below-same, sum_below-none, sum_below-product}
 use Rattle.mlu_ring.proofs.Totals.{pair-nil, pair-append, pair-take}
 use Rattle.mlu_kernel.specs.Kernels.{plus_rows}
 use Rattle.mlu_kernel.proofs.PlusRows.{plus_rows-none, plus_rows-append, length-plus_rows, get_or-plus_rows}
 use Rattle.mlu_eq.specs.Split.{contents}
-use Rattle.mlu_eq.proofs.Compressions.{front-written}
 use Rattle.mlu_eq.proofs.Contents.{contents-take_more, length-contents}
 
 -- all but the last of a joined list
@@ -204,9 +203,3 @@ module _ {R : Type 0} (ring : Ring R) (laws : RingLaws ring) where
       ap (λ l. plus_rows ring l u (map embed (take (length es - b) (drop b es)))) begun
       ∙ ap (plus_rows ring (plus_rows ring old a (drop s e)) u) (ap (map embed) (to-end b es) ∙ sym (drop-map embed b es) ∙ ap (λ k. drop k e) border)
       ∙ plus_rows-shifted_rows old full w e x s some places
-
-  -- the compression by the moved table, written over zeros
-  pub front-shifted_written : (n : ℕ) (c e old out : List R) → old ≡ replicate n 𝟘 → 0 < length c → length e ≡ length c * n → out ≡ plus_rows ring old (shifted ring c) e → out ≡ front ring (shifted ring c) e
-  front-shifted_written n c e old out zeros some size made =
-      let long = length-moved_up 𝟘 c some in
-      front-written ring laws n (shifted ring c) e old out zeros (omega (arith, long, some)) (size ∙ ap (λ k. k * n) (sym long)) made

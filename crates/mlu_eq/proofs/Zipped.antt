@@ -6,7 +6,7 @@ use Rattle.mlu_ring.specs.Ring.{Ring, RingLaws}
 use Rattle.mlu_ring.proofs.Rings.{map-one, line_by_step}
 use Rattle.mlu_ring.proofs.Zips.{zip2-append, zip_more}
 use Rattle.mlu_eq.specs.Combine.{combined, interpolated}
-use Rattle.mlu_eq.proofs.Products.{row_end}
+use Rattle.mlu_ring.proofs.Rows.{row_end}
 
 module _ {V W : Type 0} (f : V → W → V) where
   -- n more places of two lists, zipped over the first
@@ -15,21 +15,29 @@ module _ {V W : Type 0} (f : V → W → V) where
   zip_block xs ys out m n h e is =
       ap (λ vs. take m vs ++ (zip2 f (take n (drop m vs)) (take n (drop m ys)) ++ drop (m + n) vs)) is ∙ zip_more f xs ys m n h e
 
-  -- block i of n places, written over what a loop left: the loop counts its places as v
+  -- block i of n places, written over what a loop left
+  pub zip_row_step : (xs : List V) (ys : List W) (out written : List V) (i m n start v : ℕ) → i < m → length xs ≡ m * n → length xs ≡ length ys → start ≡ i * n → v ≡ n
+      → out ≡ zip2 f (take (i * n) xs) (take (i * n) ys) ++ drop (i * n) xs
+      → written ≡ zip2 f (take n (drop (i * n) out)) (take n (drop (i * n) ys))
+      → take start out ++ (written ++ drop v (drop start out)) ≡ zip2 f (take ((i + 1) * n) xs) (take ((i + 1) * n) ys) ++ drop ((i + 1) * n) xs
+  zip_row_step xs ys out written i m n start v h size e begins places is at =
+      let next : i * n + n ≡ (i + 1) * n = omega arith in
+      let room = row_end i m n (length xs) h size in
+      ap (λ k. take start out ++ (written ++ drop k (drop start out))) places
+      ∙ ap (λ k. take k out ++ (written ++ drop n (drop k out))) begins
+      ∙ ap (λ vs. take (i * n) out ++ (vs ++ drop n (drop (i * n) out))) at
+      ∙ ap (λ vs. take (i * n) out ++ (zip2 f (take n (drop (i * n) out)) (take n (drop (i * n) ys)) ++ vs)) (drop-drop n (i * n) out)
+      ∙ zip_block xs ys out (i * n) n room e is
+      ∙ ap (λ k. zip2 f (take k xs) (take k ys) ++ drop k xs) next
+
+  -- the loop counts its places as v
   pub zip_block_step : (xs : List V) (ys : List W) (out written : List V) (i m v n : ℕ) → i < m → length xs ≡ m * n → length xs ≡ length ys → v ≡ n
       → out ≡ zip2 f (take (i * n) xs) (take (i * n) ys) ++ drop (i * n) xs
       → written ≡ zip2 f (take n (drop (i * n) out)) (take n (drop (i * n) ys))
       → take (i * v) out ++ (written ++ drop (i * v + v - i * v) (drop (i * v) out)) ≡ zip2 f (take ((i + 1) * n) xs) (take ((i + 1) * n) ys) ++ drop ((i + 1) * n) xs
   zip_block_step xs ys out written i m v n h size e same is at =
       let many : i * v + v - i * v ≡ v = omega arith in
-      let next : i * n + n ≡ (i + 1) * n = omega arith in
-      let room = row_end i m n (length xs) h size in
-      ap (λ k. take (i * v) out ++ (written ++ drop k (drop (i * v) out))) many
-      ∙ ap (λ k. take (i * k) out ++ (written ++ drop k (drop (i * k) out))) same
-      ∙ ap (λ vs. take (i * n) out ++ (vs ++ drop n (drop (i * n) out))) at
-      ∙ ap (λ vs. take (i * n) out ++ (zip2 f (take n (drop (i * n) out)) (take n (drop (i * n) ys)) ++ vs)) (drop-drop n (i * n) out)
-      ∙ zip_block xs ys out (i * n) n room e is
-      ∙ ap (λ k. zip2 f (take k xs) (take k ys) ++ drop k xs) next
+      zip_row_step xs ys out written i m n (i * v) (i * v + v - i * v) h size e (ap (λ k. i * k) same) (many ∙ same) is at
 
   -- two lists in two parts at the same place
   pub zip_halves : (xs : List V) (ys : List W) (m : ℕ) (us vs out other : List V) (ws zs : List W) → length xs ≡ length ys
@@ -45,15 +53,6 @@ module _ {V W : Type 0} (f : V → W → V) where
       ∙ ap (λ l. zip2 f (take m xs ++ drop m xs) (take m ys ++ l)) last_y
       ∙ ap (λ l. zip2 f l (take m ys ++ drop m ys)) (take-append-drop m xs)
       ∙ ap (zip2 f xs) (take-append-drop m ys)
-
-  zip_nil : (ys : List W) → [] ≡ zip2 f [] ys
-  zip_nil [] = refl
-  zip_nil (y ∷ ys) = refl
-
-  -- an output without places
-  pub zip_nothing : (xs : List V) (ys : List W) → length xs ≡ 0 → xs ≡ zip2 f xs ys
-  zip_nothing [] ys h = zip_nil ys
-  zip_nothing (x ∷ xs) ys h = absurd (omega arith)
 
 module _ {R : Type 0} (ring : Ring R) (laws : RingLaws ring) where
   -- nothing was there before

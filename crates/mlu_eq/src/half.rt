@@ -112,9 +112,9 @@ impl<F: Field, EF: ExtensionField<F>> EqMaybePacked<F, EF> {
         Ok(EqMaybePacked { weights })
     }
 
-    /// There is a weight. Does nothing.
+    /// Does nothing: its clause says that there is a weight.
     #[inline]
-    pub(crate) fn is_not_empty(&self)
+    pub(crate) fn show_not_empty(&self)
         ensures { 0 < length self.now.weights }
     {
         match &self.weights {

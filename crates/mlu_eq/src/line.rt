@@ -45,7 +45,7 @@ pub fn interpolate_packing<F: Field, EF: ExtensionField<F>>(
     scale_packing::<F, EF>(r, high - low).plus(low)
 }
 
-/// The same at the image of a base element.
+/// [`interpolate`] at the image of a base element.
 #[inline(always)]
 pub fn interpolate_at_base<R: Additive, F: Algebra<R>>(low: F, high: F, r: R) -> F
     ensures { result ≡ interpolated F.ring (F.embed r) low high }

@@ -9,7 +9,7 @@ use crate::half::{EqMaybePacked, Weights};
 use mlu_kernel::small::{SMALL_BYTES, is_small};
 use mlu_ring::{
     Additive, Algebra, ExtensionField, Field, Lanewise, PackedFieldExtension, PackedValue,
-    PrimeCharacteristicRing,
+    PrimeCharacteristicRing, row_range,
 };
 
 /// The most lanes that are stored as elements on the stack.
@@ -26,18 +26,14 @@ pub fn accumulate_into<F: Field, EF: ExtensionField<F>>(
     requires { length out.old ≡ length eq0.now * length eq1.now.weights }
     ensures { out.new ≡ plus_scaled EF.ring out.old scale (contents EF.ring eq0.now eq1.now.weights) }
 {
-    if eq0.is_empty() {
-        return;
-    }
-    let row_length = eq1.num_scalar_evals();
     for j in 0..eq0.len() {
-        let start = j * row_length;
-        add_weights(eq1, &mut out[start..start + row_length], scale * eq0[j]);
+        let row = row_range(out.len(), eq0.len(), j);
+        add_weights(eq1, &mut out[row], scale * eq0[j]);
     }
 }
 
-/// The same with packed places, which stand for their lanes. Asks for packed weights, and for
-/// as many lanes as the split table has entries.
+/// [`accumulate_into`] with packed places, which stand for their lanes. Asks for packed weights,
+/// and for as many lanes as the split table has entries.
 #[tactic(auto, using(crate::proofs::Lengths::cancel_width))]
 pub fn accumulate_into_packed<F: Field, EF: ExtensionField<F>>(
     eq0: &[EF],
@@ -100,7 +96,7 @@ pub(crate) fn add_multiple<R: PrimeCharacteristicRing>(out: &mut [R], weights: &
     }
 }
 
-/// The same where the factor is the image of `factor`.
+/// [`add_multiple`] by the image of `factor`.
 #[inline]
 fn add_scaled_each<B: Additive, R: Algebra<B>>(out: &mut [R], weights: &[R], factor: B)
     requires { length out.old ≡ length weights.now }

@@ -20,7 +20,7 @@ use mlu_ring::{
 /// The packed places that begin at zero for a short output.
 const FEW_PLACES: usize = 8;
 
-/// The same for most outputs.
+/// The packed places that begin at zero for most outputs.
 const MANY_PLACES: usize = 128;
 
 /// With more packed places than these an output is added to entry by entry.

@@ -132,7 +132,7 @@ impl<F: Field, EF: ExtensionField<F>> PrefixCompression<F, EF, EF> for Shifted {
         out: &mut [EF],
         rows: &[F],
     ) {
-        eq1.is_not_empty();
+        eq1.show_not_empty();
         add_border(eq0, eq1, start, out, rows);
         compress_prefix_shifted_into(&eq0[start..start + run], eq1, out, rows);
     }
@@ -162,7 +162,7 @@ fn add_border<F: Field, EF: ExtensionField<F>>(
     if start == 0 {
         return;
     }
-    eq1.is_not_empty();
+    eq1.show_not_empty();
     let border = eq0[start - 1] * eq1.last_scalar();
     add_scalar_row(out, border, &rows[..out.len()]);
 }
@@ -193,7 +193,7 @@ pub fn compress_prefix_in_runs<
     ensures { AddsRows EF.ring EF.embed P.lanes
         (P.moved (contents EF.ring eq0.now eq1.now.weights)) entries.now out.old out.new }
 {
-    eq1.is_not_empty();
+    eq1.show_not_empty();
     for i in 0..eq0.len().div_ceil(run_length) {
         let start = i * run_length;
         let run = run_length.min(eq0.len() - start);

@@ -123,7 +123,7 @@ fn compress_rows<F: Field, EF: ExtensionField<F>, S: SuffixCompression<F, EF>>(
     requires size { length entries.now ≡ length out.old * (length eq0.now * length eq1.now.weights) }
     ensures { out.new ≡ back EF.ring (S.moved (contents EF.ring eq0.now eq1.now.weights)) (map EF.embed entries.now) }
 {
-    eq1.is_not_empty();
+    eq1.show_not_empty();
     if let Weights::Packed(weights) = eq1.weights() {
         if can_be_joined::<F, EF>(eq0.len(), weights.len()) {
             return compress_by_joined::<F, EF, S>(eq0, weights, out, entries);
@@ -142,7 +142,7 @@ fn can_be_joined<F: Field, EF: ExtensionField<F>>(rows: usize, weights: usize) -
     rows.saturating_mul(weights) <= MOST_JOINED && is_small(&EF::ExtensionPacking::ZERO)
 }
 
-/// The same, with the products of both halves written once, for all rows.
+/// [`compress_rows`] with the products of both halves written once, for all rows.
 fn compress_by_joined<F: Field, EF: ExtensionField<F>, S: SuffixCompression<F, EF>>(
     eq0: &[EF],
     weights: &[EF::ExtensionPacking],

@@ -1,7 +1,7 @@
 use Rattle.std.proofs.Common.{◌<◌, length, subst, sym}
 use Rattle.mlu_eq.proofs.Halves.{packed_length}
 use Rattle.mlu_eq.proofs.Lengths.{positive_of_lanes}
-use Rattle.mlu_eq.proofs.half.EqMaybePacked.is_not_empty.Goals as goal
+use Rattle.mlu_eq.proofs.half.EqMaybePacked.show_not_empty.Goals as goal
 
 pub returns-in-Packed : goal.returns-in-Packed
 returns-in-Packed g c =

@@ -20,7 +20,7 @@ returns g c =
     let w = c.args.eq1.now.weights in
     let x = c.index-eq0-start.result in
     let later : 0 < c.args.start = grind (arith, nat_tests) in
-    let border = row_weight-shifted ring laws c.args.eq0.now w c.args.start x c.last_scalar.result c.mul-border.result later c.requires.within c.is_not_empty.ensures
+    let border = row_weight-shifted ring laws c.args.eq0.now w c.args.start x c.last_scalar.result c.mul-border.result later c.requires.within c.show_not_empty.ensures
     c.index-eq0-start.is c.last_scalar.ensures (g.met.EF.PrimeCharacteristicRing.multiplies x c.last_scalar.result c.mul-border.result c.mul-border.ensures) in
     c.add_scalar_row.ensures
     ∙ plus_rows-first ring laws c.args.out.now (map embed c.args.rows.now) (map embed (take (length c.args.out.now) c.args.rows.now)) c.mul-border.result _ border

@@ -9,7 +9,7 @@ use Rattle.mlu_kernel.specs.Kernels.{plus_rows}
 use Rattle.mlu_kernel.proofs.PlusRows.{plus_rows-none}
 use Rattle.mlu_eq.specs.Split.{contents}
 use Rattle.mlu_eq.proofs.Contents.{length-contents}
-use Rattle.mlu_eq.proofs.Lengths.{positive_product}
+use Rattle.std.proofs.Math.Nat.{mul-pos}
 use Rattle.mlu_eq.proofs.Runs.{run-starts, run-ends, run-some, run-closes, run-more, map-run}
 use Rattle.mlu_eq.proofs.split.runs.compress_prefix_in_runs.Goals as goal
 
@@ -69,7 +69,7 @@ loop-i-preserved g c =
     let i = c.loop-i.i in
     let run = c.min-run.result in
     let s = length c.args.out.now * width in
-    let some : 0 < length (contents ring c.args.eq0.now w) = subst (λ k. 0 < k) (sym (length-contents ring c.args.eq0.now w)) (positive_product m n c.requires.some c.is_not_empty.ensures) in
+    let some : 0 < length (contents ring c.args.eq0.now w) = subst (λ k. 0 < k) (sym (length-contents ring c.args.eq0.now w)) (mul-pos c.requires.some c.show_not_empty.ensures) in
     let size = g.met.P.PrefixCompression.length_moved whole some ∙ length-contents ring c.args.eq0.now w in
     let begins = starts m l i c.div_ceil-i-end.result c.requires.run c.div_ceil-i-end.ensures c.loop-i-test.true in
     let left = length c.args.eq0.now - c.loop-i.i * c.args.run_length in
@@ -96,7 +96,7 @@ returns g c =
     let old = logical g.P.PrefixCompression.lanes c.args.out.now in
     let e = map g.EF.Algebra.embed c.args.entries.now in
     let done = c.loop-i.i * c.args.run_length in
-    let some : 0 < length (contents ring c.args.eq0.now w) = subst (λ k. 0 < k) (sym (length-contents ring c.args.eq0.now w)) (positive_product m n c.requires.some c.is_not_empty.ensures) in
+    let some : 0 < length (contents ring c.args.eq0.now w) = subst (λ k. 0 < k) (sym (length-contents ring c.args.eq0.now w)) (mul-pos c.requires.some c.show_not_empty.ensures) in
     let size = g.met.P.PrefixCompression.length_moved whole some ∙ length-contents ring c.args.eq0.now w in
     let reached : length c.args.eq0.now ≤ c.loop-i.i * c.args.run_length = run-ends m c.args.run_length c.loop-i.i c.requires.run (subst (λ k. k ≤ c.loop-i.i) c.div_ceil-i-end.ensures c.loop-i-test.false) in
     let all = mul-le-mul_right n reached in

@@ -4,7 +4,7 @@ use Rattle.mlu_ring.specs.Tables.{pair}
 use Rattle.mlu_eq.specs.Split.{contents}
 use Rattle.mlu_eq.proofs.Compressions.{back_of_dots, written_more}
 use Rattle.mlu_eq.proofs.Contents.{length-contents}
-use Rattle.mlu_eq.proofs.Lengths.{positive_product}
+use Rattle.std.proofs.Math.Nat.{mul-pos}
 use Rattle.mlu_eq.proofs.RowsMapped.{row-map}
 use Rattle.mlu_eq.proofs.split.suffix.compress_rows.Goals as goal
 
@@ -20,7 +20,7 @@ loop-y-preserved g c =
     let e = map g.EF.Algebra.embed c.args.entries.now in
     let whole = contents ring c.args.eq0.now w in
     let table = g.S.SuffixCompression.moved whole in
-    let places = positive_product (length c.args.eq0.now) (length w) c.requires.some c.is_not_empty.ensures in
+    let places = mul-pos c.requires.some c.show_not_empty.ensures in
     let long = length-contents ring c.args.eq0.now w in
     let many = g.met.S.SuffixCompression.length_moved whole (subst (λ k. 0 < k) (sym long) places) ∙ long in
     let n = length c.args.eq0.now * length w in
@@ -38,7 +38,7 @@ returns g c =
     let w = c.args.eq1.now.weights in
     let ring = g.EF.Additive.ring in
     let whole = contents ring c.args.eq0.now w in
-    let places = positive_product (length c.args.eq0.now) (length w) c.requires.some c.is_not_empty.ensures in
+    let places = mul-pos c.requires.some c.show_not_empty.ensures in
     let long = length-contents ring c.args.eq0.now w in
     let many = g.met.S.SuffixCompression.length_moved whole (subst (λ k. 0 < k) (sym long) places) ∙ long in
     back_of_dots ring g.met.EF.Additive.laws (g.S.SuffixCompression.moved whole) (map g.EF.Algebra.embed c.args.entries.now) c.loop-y.out (length c.args.out.now)
