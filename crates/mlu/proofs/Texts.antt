@@ -4,7 +4,7 @@ use Rattle.std.specs.List.{slice_split, join_with_byte, All}
 use Rattle.std.proofs.lemmas.List.Splits.{slice_split_none, slice_split_at, join_with_byte-slice_split, length-slice_split}
 use Rattle.std.proofs.lemmas.Str.Parse.{digit_at}
 use Rattle.std.proofs.lemmas.List.Elements.{All-from_get_or}
-use Rattle.std.proofs.lemmas.List.{get_or-map, length-map, map-append}
+use Rattle.std.proofs.lemmas.List.{get_or-map, length-map}
 use Rattle.std.proofs.lemmas.Bool.Decides.{nat_tests}
 use Rattle.std.proofs.lemmas.Bool.{false≢true}
 use Rattle.std.specs.Cmp.Lexicographic.{pointwise}
@@ -50,10 +50,6 @@ IsNoList-part w k piece ne h at none l e =
     let within : k < length l = omega (arith, h, ap length is, length-map l decimal_of) in
     none (get_or l k (reduced 0))
     (sym (get_or-map decimal_of l k (reduced 0) piece within) ∙ ap (λ ps. get_or ps k piece) (sym is) ∙ sym at)
-
--- one part more is one entry more
-pub entries-more : (rs : List Element) (r : Element) (pieces : List (List ℕ)) (piece : List ℕ) → map decimal_of rs ≡ pieces → decimal_of r ≡ piece → map decimal_of (rs ++ (r ∷ [])) ≡ pieces ++ (piece ∷ [])
-entries-more rs r pieces piece e h = simp map-append (rw (e, h) refl)
 
 -- a word of which `== "-"` is false
 pub not_dash : (w : List ℕ) → false ≡ pointwise eqb w (45 ∷ []) → w ≢ 45 ∷ []

@@ -16,8 +16,7 @@ fn eval(alloc: Global, table: &str, point: &str) -> Result<Vec<u8>, Fault>
 {
     let (table, point) = table_and_point(alloc, table, point)?;
     let value = table.eval_base(alloc, &point)?;
-    let line = line(alloc, &[value])?;
-    Ok(line)
+    Ok(line(alloc, &[value])?)
 }
 
 /// The sum of the weight at a point of each vertex times the table's value at the next one.
@@ -26,8 +25,7 @@ fn next(alloc: Global, table: &str, point: &str) -> Result<Vec<u8>, Fault>
 {
     let (table, point) = table_and_point(alloc, table, point)?;
     let value = table.eval_next_base(alloc, &point)?;
-    let line = line(alloc, &[value])?;
-    Ok(line)
+    Ok(line(alloc, &[value])?)
 }
 
 /// The weights of the vertices, where coordinate 0 reads the highest bit of an index.
@@ -36,8 +34,7 @@ fn msb(alloc: Global, point: &str) -> Result<Vec<u8>, Fault>
 {
     let point = short_point(alloc, point)?;
     let weights = point.equality_weights_msb(alloc)?;
-    let line = line(alloc, &weights)?;
-    Ok(line)
+    Ok(line(alloc, &weights)?)
 }
 
 /// The weights of the vertices, where coordinate 0 reads the lowest bit of an index.
@@ -46,8 +43,7 @@ fn lsb(alloc: Global, point: &str) -> Result<Vec<u8>, Fault>
 {
     let point = short_point(alloc, point)?;
     let weights = point.equality_weights_lsb(alloc)?;
-    let line = line(alloc, &weights)?;
-    Ok(line)
+    Ok(line(alloc, &weights)?)
 }
 
 /// The table with its first variable at a number.
@@ -56,8 +52,7 @@ fn fold_first(alloc: Global, table: &str, number: &str) -> Result<Vec<u8>, Fault
 {
     let (table, number) = table_and_number(alloc, table, number)?;
     let folded = table.fix_prefix_var(alloc, number)?;
-    let line = line(alloc, folded.as_slice())?;
-    Ok(line)
+    Ok(line(alloc, folded.as_slice())?)
 }
 
 /// The table with its last variable at a number.
@@ -66,8 +61,7 @@ fn fold_last(alloc: Global, table: &str, number: &str) -> Result<Vec<u8>, Fault>
 {
     let (table, number) = table_and_number(alloc, table, number)?;
     let folded = table.fix_suffix_var(alloc, number)?;
-    let line = line(alloc, folded.as_slice())?;
-    Ok(line)
+    Ok(line(alloc, folded.as_slice())?)
 }
 
 /// The value of a table at a point by four routes, a line each.
@@ -79,8 +73,7 @@ fn routes(alloc: Global, table: &str, point: &str) -> Result<Vec<u8>, Fault>
     let by_scalars = by_scalars::<Element, Element>(alloc, &table, &point)?;
     let by_lanes = by_lanes::<Element, Element>(alloc, &table, &point)?;
     let packed = packed::<Element, Element>(alloc, table, &point)?;
-    let lines = lines(alloc, &[direct, by_scalars, by_lanes, packed])?;
-    Ok(lines)
+    Ok(lines(alloc, &[direct, by_scalars, by_lanes, packed])?)
 }
 
 /// The rounds of sumcheck over a table and the weights of a point, a line each, and the last claim.
@@ -89,8 +82,7 @@ fn sumcheck(alloc: Global, table: &str, point: &str, challenges: &str) -> Result
 {
     let (table, point, challenges) = table_and_points(alloc, table, point, challenges)?;
     let (rounds, last) = proof::<Element, Element>(alloc, &table, &point, challenges.as_slice())?;
-    let lines = proof_lines(alloc, rounds, last)?;
-    Ok(lines)
+    Ok(proof_lines(alloc, rounds, last)?)
 }
 
 /// The lines that answer the words after the program's name, or the first fault of the words.

@@ -9,11 +9,11 @@ use std::alloc::AllocError;
 pub enum Fault {
     /// An unknown command, or a wrong number of words.
     Usage,
-    /// A word that should be a list, or one number, isn't.
+    /// A word that should be a list, or one number, is not.
     Number,
     /// The number of entries is no power of two, or a table would have too many.
     Length,
-    /// The number of coordinates isn't that of the variables.
+    /// The number of coordinates is not that of the variables.
     Arity,
     /// Memory was refused.
     Memory,

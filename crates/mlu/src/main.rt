@@ -2,8 +2,8 @@
 //!
 //! Its words are a command and its operands, lists of decimals. [`command::answer`] is the whole
 //! program but for the printing: it gives the bytes to print or the first fault of the words, and
-//! its contract says which, in the definitions of mlu_ring. The faults of the words are tested
-//! before any memory is asked for.
+//! its contract says which, in the definitions of mlu_ring. Once it has the words, their faults are
+//! tested before more memory is asked for.
 //!
 //! Stands on mlu_lanes for the elements, on multilinear_util for points and polynomials, and on
 //! mlu_sumcheck.
@@ -33,7 +33,7 @@ fn arguments(rt: &HostRuntime) -> io::Result<Vec<String>> {
     Ok(words)
 }
 
-/// The answer to the words, or want of memory where they can't be had.
+/// The answer to the words, or want of memory where they cannot be had.
 fn answer(alloc: Global, words: io::Result<Vec<String>>) -> Result<Vec<u8>, Fault>
     ensures words { IfOk words (λ words. AnswersWords (map string_bytes words.items) result) }
     ensures none { OnErr words (result ≡ Err Fault.Memory) }

@@ -2,7 +2,8 @@
 //! that a fault of theirs is named whatever memory does.
 ghost use Rattle.std.specs.Prelude.{◌≡◌, ◌^◌, MatchOption};
 ghost use Rattle.std.specs.Int.{IsPowerOfTwo};
-ghost use Rattle.mlu.specs.Operands.{IsText, AreTexts, AreTextAndDecimal, AreThreeTexts, IsTable, IsTableOfPoints, IsPointOf, ArePointsOf, HasVariable, IsShort, StandsAlone};
+ghost use Rattle.mlu.specs.Operands.{IsText, AreTexts, AreTextAndDecimal, AreThreeTexts, IsTable, IsTableOfPoints};
+ghost use Rattle.mlu.specs.Operands.{IsPointOf, ArePointsOf, HasVariable, IsShort, StandsAlone};
 ghost use Rattle.mlu.specs.Outcomes.{IsOutcome};
 
 use crate::element::Element;

@@ -26,7 +26,7 @@ pub fn proof<F: Field, EF: ExtensionField<F> + SelfAlgebra>(
     ensures rounds { IfOk result (λ both. both.0.items ≡ rounds_of EF.ring (weights EF.ring point.now) table.now challenges.now) }
     ensures last { IfOk result (λ both. both.1 ≡ product_of_values EF.ring (weights EF.ring point.now) table.now challenges.now) }
 {
-    // Its weights are as many as the entries, which a `usize` counts.
+    // Called for its clauses: the number of entries, and so of weights, fits a `usize`.
     let _entries = table.num_evals();
     let split = SplitEq::<F, EF>::new_unpacked(alloc, point, EF::ONE)?;
     let Transcript { rounds, claims } = run(alloc, table, &split, challenges)?;

@@ -11,7 +11,7 @@ use Rattle.mlu_ring.specs.Tables.{front, back, line, weights}
 use Rattle.mlu_ring.proofs.PowersOfTwo.{half_power}
 use Rattle.mlu_ring.proofs.Univariate.{length-front}
 use Rattle.mlu_ring.proofs.Folds.{length-back}
-use Rattle.mlu_point.proofs.Equality.{length-weights}
+use Rattle.mlu_ring.proofs.Joined.{length-weights}
 use Rattle.multilinear_util.specs.Compressions.{prefix_compressed, suffix_compressed}
 
 -- rows of some entries are no more than these

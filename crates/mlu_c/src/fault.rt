@@ -7,9 +7,9 @@ use std::alloc::AllocError;
 /// Why there is no answer. The first three are tested in this order, and before memory is asked for.
 #[derive(Clone, Copy, Debug, PartialEq, Eq)]
 pub enum Fault {
-    /// An operand has a number of words that it can't have.
+    /// An operand has a number of words that it cannot have.
     Length,
-    /// The sizes of the operands don't fit one another.
+    /// The sizes of the operands do not fit one another.
     Arity,
     /// A word that is read is the modulus or more.
     Residue,

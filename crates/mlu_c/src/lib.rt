@@ -12,8 +12,10 @@
 #![tactic(auto)]
 
 ghost use Rattle.mlu_ring.specs.Tables.{value};
-ghost use Rattle.mlu_c.specs.Calls.{embedded_next_value, embedded_prefix, embedded_suffix, embedded_value, first_folded, last_folded, scaled_weights};
-ghost use Rattle.mlu_c.specs.Exports.{BatchesExtension, CompressesBase, EvaluatesBase, EvaluatesExtension, FoldsExtension, ProvesExtension, TabulatesExtension, VerifiesExtension};
+ghost use Rattle.mlu_c.specs.Calls.{embedded_next_value, embedded_prefix, embedded_suffix};
+ghost use Rattle.mlu_c.specs.Calls.{embedded_value, first_folded, last_folded, scaled_weights};
+ghost use Rattle.mlu_c.specs.Exports.{BatchesExtension, CompressesBase, EvaluatesBase, EvaluatesExtension};
+ghost use Rattle.mlu_c.specs.Exports.{FoldsExtension, ProvesExtension, TabulatesExtension, VerifiesExtension};
 ghost use Rattle.mlu_c.specs.Outcomes.{Answers, Judges};
 
 mod batches;
@@ -173,7 +175,7 @@ pub extern "C" fn mlu_sumcheck_run(
 }
 
 /// Whether the rounds fit a claim at the challenges: the last claim where they do, and status 5
-/// where they don't.
+/// where they do not.
 #[unsafe(no_mangle)]
 pub extern "C" fn mlu_sumcheck_verify(
     alloc: Global,

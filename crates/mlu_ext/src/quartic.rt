@@ -13,8 +13,12 @@ mod trivial_extension;
 /// `QuarticExtension<Lanes<BabyBear<W>, W>>`.
 #[derive(Clone, Copy, Debug, PartialEq, Eq)]
 pub struct QuarticExtension<R> {
+    /// The coefficient of 1.
     pub c0: R,
+    /// The coefficient of X.
     pub c1: R,
+    /// The coefficient of X^2.
     pub c2: R,
+    /// The coefficient of X^3.
     pub c3: R,
 }

@@ -5,7 +5,7 @@ use Rattle.mlu_ring.specs.Ring.{Ring, RingLaws}
 use Rattle.mlu_ring.specs.Tables.{pair, front, line, univariate}
 use Rattle.mlu_ring.proofs.Doubling.{map_range-add}
 use Rattle.mlu_ring.proofs.Tabulated.{tabulate, length-tabulate, get_or-tabulate}
-use Rattle.mlu_sumcheck.specs.Rounds.{folded, round_at, AddsUpTo, BeginWithSum, EndWithProduct, Fit, FitFromTo}
+use Rattle.mlu_sumcheck.specs.Rounds.{folded, round_at, AddsUpTo, EndWithProduct, Fit, FitFromTo}
 use Rattle.mlu_sumcheck.proofs.Rounds.{round-adds_up, univariate-round}
 use Rattle.mlu_sumcheck.proofs.Folded.{folded-take_more, halves-folded_at, pair-folded}
 
@@ -72,9 +72,6 @@ module _ {R : Type 0} (ring : Ring R) where
   -- from the first claim to the last through all rounds is from the claim s through those from round i on
   abbrev pub Leaves : R → R → List (List R) → List R → ℕ → Type 0
   Leaves first s rounds challenges i = (last : R) → (FitFromTo ring first last rounds challenges → FitFromTo ring s last (drop i rounds) (drop i challenges)) × (FitFromTo ring s last (drop i rounds) (drop i challenges) → FitFromTo ring first last rounds challenges)
-
-  pub leaves-all : (first : R) (rounds : List (List R)) (challenges : List R) → Leaves first first rounds challenges 0
-  leaves-all first rounds challenges = λ last. (λ chain. chain, λ chain. chain)
 
   module _ (first s : R) (rounds : List (List R)) (challenges : List R) (i : ℕ) (g : List R) (r : R) (within : i < length rounds) (within_challenges : i < length challenges) (at_round : g ≡ get_or rounds i g) (at_challenge : r ≡ get_or challenges i r) (so_far : Leaves first s rounds challenges i) where
     rounds_left : drop i rounds ≡ g ∷ drop (i + 1) rounds
@@ -159,9 +156,6 @@ module _ {R : Type 0} (ring : Ring R) (laws : RingLaws ring) where
         adds_up = transcript-adds_up;
         next = transcript-next;
       }
-
-      pub transcript-first : BeginWithSum ring claims w e
-      transcript-first = transcript-claim 0 (omega arith)
 
       pub transcript-last : EndWithProduct ring claims w e challenges
       transcript-last =

@@ -8,9 +8,9 @@ ghost use Rattle.mlu_sumcheck.specs.Rounds.{product_of_values, FitFromTo, IsCaug
 
 use mlu_ring::PrimeCharacteristicRing;
 
-/// Where claims from `first` to `last` fit, as [`verify`](crate::verify) says, and `last` is the product
-/// of both tables' values at the challenges, `first` is the sum of the products of both tables, or some
-/// round is false: it differs from the tables' own, but agrees with it at that round's challenge.
+/// Let claims from `first` to `last` fit, as [`verify`](crate::verify) says, and `last` be the product of
+/// both tables' values at the challenges. Then `first` is the sum of the products of both tables, or
+/// some round is false: it differs from the tables' own round, but has the same value at its challenge.
 ///
 /// Asks for `2^k` entries in each table and `k` rounds, where there are `k` challenges.
 pub fn caught<EF: PrimeCharacteristicRing>(

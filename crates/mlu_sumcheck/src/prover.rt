@@ -145,13 +145,11 @@ pub fn run<F: Field, EF: ExtensionField<F> + SelfAlgebra>(
 {
     let variables = poly.num_variables();
     let first = weights.eval_ext(poly.as_view());
-    let poly = poly.try_clone(alloc)?;
-    let weights = weights.materialize(alloc)?;
+    let mut poly = poly.try_clone(alloc)?;
+    let mut weights = weights.materialize(alloc)?;
     let mut rounds = Vec::with_capacity(alloc, variables)?;
     let mut claims = Vec::with_capacity(alloc, variables + 1)?;
     claims.push_reserved(first);
-    let mut poly = poly;
-    let mut weights = weights;
     let mut claim = first;
     for challenge in challenges {
         let r = *challenge;

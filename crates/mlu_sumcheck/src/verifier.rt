@@ -38,8 +38,7 @@ pub fn verify<EF: PrimeCharacteristicRing>(
     ensures { IsLastClaim EF.ring claim rounds.now challenges.now result }
 {
     for i in 0..rounds.len() {
-        let next = verify_round(claim, rounds[i], challenges[i])?;
-        claim = next;
+        claim = verify_round(claim, rounds[i], challenges[i])?;
     }
     Some(claim)
 }

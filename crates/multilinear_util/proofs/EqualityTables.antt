@@ -9,13 +9,6 @@ use Rattle.mlu_ring.specs.Tables.{weights}
 use Rattle.mlu_ring.proofs.Doubling.{weights-none, weights-first, map_twice}
 use Rattle.mlu_ring.proofs.RingMaps.{map-minus}
 
-map_same : {X Y : Type 0} (f g : X → Y) → ((x : X) → f x ≡ g x) → (xs : List X) → map f xs ≡ map g xs
-map_same f g same [] = refl
-map_same f g same (x ∷ xs) =
-    let first = same x in
-    let rest = map_same f g same xs in
-    cc (first, rest)
-
 module _ {B R : Type 0} (base : Ring B) (base_laws : RingLaws base) (ring : Ring R) (laws : RingLaws ring) (f : B → R) (keeps : IsRingMap base ring f) where
   half : (c : B) (d : R) (ws : List B) → f c ≡ d → map (λ w. ring.product d w) (map f ws) ≡ map f (map (λ w. base.product c w) ws)
   half c d ws e =

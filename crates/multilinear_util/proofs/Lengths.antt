@@ -85,8 +85,3 @@ width_within_half n w l fits test width less =
     halves n w zero e p h = absurd (omega arith)
     halves n w (suc zero) e p h = absurd (omega arith)
     halves n w (suc (suc q)) e p h = (omega arith, omega arith)
-
--- each of 2 ^ k elements has 2 ^ l lanes
-pub power_of_lanes : (n w l m : ℕ) → n < 2 ^ 64 → IsTrue (is_power_of_two n) → w ≡ 2 ^ l → m ≡ n * w → IsTrue (is_power_of_two m)
-power_of_lanes n w l m fits test width is =
-    is_power_of_two-power m (count_trailing_zeros 64 n + l) (is ∙ ap (λ x. x * w) (power_of_test n fits test) ∙ ap (λ x. 2 ^ count_trailing_zeros 64 n * x) width ∙ sym (pow-add 2 (count_trailing_zeros 64 n) l))

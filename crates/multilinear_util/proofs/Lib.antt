@@ -2,7 +2,6 @@ pub mod Lengths
 pub mod EqualityTables
 pub mod Outcomes
 pub mod Packed
-pub mod Rooms
 pub mod Scaled
 pub mod Splits
 pub mod Successors

@@ -5,8 +5,8 @@ use Rattle.std.specs.Int.{is_power_of_two}
 use Rattle.mlu_ring.specs.Lanes.{logical}
 use Rattle.mlu_ring.proofs.Logical.{length-logical}
 use Rattle.mlu_ring.proofs.PowersOfTwo.{exponent_fits}
-use Rattle.mlu_eq.proofs.Lengths.{length_of_lanes}
-use Rattle.multilinear_util.proofs.Lengths.{power_of_lanes, power-mod-width, power_of_size}
+use Rattle.mlu_eq.proofs.Lengths.{length_of_lanes, power_of_lanes}
+use Rattle.multilinear_util.proofs.Lengths.{power-mod-width, power_of_size}
 
 module _ {P V : Type 0} (lanes : P → List V) (n : ℕ) where
   -- as many lanes as the packed values have

@@ -1,19 +1,18 @@
 -- Sums of products whose factors are scaled, and the value of a table as such a sum.
-use Rattle.std.proofs.Common.{◌≡◌, ℕ, ◌+◌, ◌*◌, ◌/◌, ◌^◌, ◌<◌, List, ◌++◌, map, length, replicate, get_or, refl, sym, ap, ◌∙◌, arith}
+use Rattle.std.proofs.Common.{◌≡◌, ℕ, ◌+◌, ◌*◌, ◌/◌, ◌^◌, List, ◌++◌, map, length, replicate, get_or, refl, sym, ap, ◌∙◌}
 use Rattle.std.proofs.lemmas.List.{length-map}
 use Rattle.std.proofs.Math.ListN.{get_or-map}
-use Rattle.std.proofs.lemmas.List.FromFn.{get_or-map-range_with_len}
 use Rattle.std.specs.List.{range_with_len}
 use Rattle.std.specs.Simd.Lanes.{zip2}
 use Rattle.mlu_eq.proofs.Zipped.{zip_zeros}
 use Rattle.mlu_ring.specs.Ring.{Ring, RingLaws}
 use Rattle.mlu_ring.specs.Sums.{sum_below}
 use Rattle.mlu_ring.specs.Tables.{pair, front, back, value, weight, weights}
-use Rattle.mlu_ring.proofs.Rings.{map-one, product_zero, product_left_comm}
+use Rattle.mlu_ring.proofs.Rings.{map-one, product_zero}
 use Rattle.mlu_ring.proofs.SumsBelow.{map_from, sum_below-same, sum_below-product}
 use Rattle.mlu_ring.proofs.Doubling.{map_twice}
-use Rattle.mlu_ring.proofs.Joined.{value-joined_prefix, value-joined_suffix}
-use Rattle.mlu_point.proofs.Equality.{length-weights}
+use Rattle.mlu_ring.proofs.Joined.{length-weights, get_or-weights, value-joined_prefix, value-joined_suffix}
+use Rattle.mlu_point.proofs.Parts.{value-scaled}
 
 module _ {R : Type 0} (ring : Ring R) (laws : RingLaws ring) where
   infixl 60 ◌⊗◌
@@ -49,34 +48,23 @@ module _ {R : Type 0} (ring : Ring R) (laws : RingLaws ring) where
       (λ k h. scaled-sum c w (length w) (λ z. get_or e ((0 + k) * length w + z) 𝟘))
       ∙ sym (map_twice (ring.product c) (λ y. entry (length w) y w) (λ y. c ⊗ entry (length w) y w) (λ y. refl) (range_with_len 0 m))
 
-  pub value-scaled : (c : R) (e p : List R) → value ring (map (ring.product c) e) p ≡ c ⊗ value ring e p
-  unfolding value
-  value-scaled c e p =
-      sum_below-same ring (2 ^ length p) (λ x. weight ring p x ⊗ get_or (map (ring.product c) e) x 𝟘) (λ x. c ⊗ (weight ring p x ⊗ get_or e x 𝟘))
-      (λ x h. ap (λ t. weight ring p x ⊗ t) (scaled-entry c e x) ∙ product_left_comm ring laws (weight ring p x) c (get_or e x 𝟘))
-      ∙ sum_below-product ring laws (2 ^ length p) c (λ x. weight ring p x ⊗ get_or e x 𝟘)
-
-  weights-entry : (p : List R) (x : ℕ) → x < 2 ^ length p → get_or (weights ring p) x 𝟘 ≡ weight ring p x
-  unfolding weights
-  weights-entry p x h = get_or-map-range_with_len (weight ring p) 0 (2 ^ length p) x x 𝟘 h (omega arith)
-
   -- the value is the sum of the entries, each times its weight
   pub pair-weights : (e p : List R) → pair ring (weights ring p) e ≡ value ring e p
   unfolding pair value
   pair-weights e p =
       ap (λ n. sum_below ring n (λ x. get_or (weights ring p) x 𝟘 ⊗ get_or e x 𝟘)) (length-weights ring p)
       ∙ sum_below-same ring (2 ^ length p) (λ x. get_or (weights ring p) x 𝟘 ⊗ get_or e x 𝟘) (λ x. weight ring p x ⊗ get_or e x 𝟘)
-      (λ x h. ap (λ t. t ⊗ get_or e x 𝟘) (weights-entry p x h))
+      (λ x h. ap (λ t. t ⊗ get_or e x 𝟘) (get_or-weights ring p x h))
 
   -- compressing the first variables at a scale and evaluating at the others is evaluating at the joined point
   pub value-compressed_prefix : (c : R) (e a b folded : List R) → folded ≡ map (ring.product c) (front ring (weights ring a) e) → length e ≡ 2 ^ (length a + length b) → value ring folded b ≡ c ⊗ value ring e (a ++ b)
   value-compressed_prefix c e a b folded is size =
-      ap (λ t. value ring t b) is ∙ value-scaled c (front ring (weights ring a) e) b ∙ ap (λ t. c ⊗ t) (value-joined_prefix ring laws e a b size)
+      ap (λ t. value ring t b) is ∙ value-scaled ring laws c (front ring (weights ring a) e) b ∙ ap (λ t. c ⊗ t) (value-joined_prefix ring laws e a b size)
 
   -- and so it is with the last variables
   pub value-compressed_suffix : (c : R) (e a b folded : List R) → folded ≡ map (ring.product c) (back ring (weights ring b) e) → length e ≡ 2 ^ (length a + length b) → value ring folded a ≡ c ⊗ value ring e (a ++ b)
   value-compressed_suffix c e a b folded is size =
-      ap (λ t. value ring t a) is ∙ value-scaled c (back ring (weights ring b) e) a ∙ ap (λ t. c ⊗ t) (value-joined_suffix ring laws e a b size)
+      ap (λ t. value ring t a) is ∙ value-scaled ring laws c (back ring (weights ring b) e) a ∙ ap (λ t. c ⊗ t) (value-joined_suffix ring laws e a b size)
 
 -- zeros, with as many values times one added, are those
 pub unit_over_zeros : {R : Type 0} (ring : Ring R) (n : ℕ) (values : List R) → length values ≡ n → RingLaws ring → zip2 ring.sum (replicate n ring.zero) (map (ring.product ring.one) values) ≡ values

@@ -14,7 +14,7 @@ use Rattle.mlu_eq.specs.Half.{Half}
 use Rattle.mlu_eq.specs.Split.{contents}
 use Rattle.mlu_eq.proofs.Contents.{length-contents, contents-images, contents-weights}
 use Rattle.mlu_eq.proofs.Runs.{own_lanes, run-length-some}
-use Rattle.mlu_point.proofs.Equality.{length-weights}
+use Rattle.mlu_ring.proofs.Joined.{length-weights}
 use Rattle.mlu_ring.proofs.Rings.{map-one}
 use Rattle.multilinear_util.specs.Split.{Split, split_entries}
 use Rattle.multilinear_util.proofs.Lengths.{exponents, quotient_of_powers}

@@ -1,5 +1,6 @@
 //! Polynomials by their tables, owned and borrowed.
-ghost use Rattle.std.specs.Prelude.{◌≡◌, ◌+◌, ◌-◌, ◌/◌, ◌<◌, ◌≤◌, ◌^◌, ◌++◌, ◌∷◌, [], length, take, IfOk, IsOk, IsTrue, is_ok, if◌then◌else◌, replicate, MatchOption};
+ghost use Rattle.std.specs.Prelude.{◌≡◌, ◌+◌, ◌-◌, ◌/◌, ◌<◌, ◌≤◌, ◌^◌, ◌++◌, ◌∷◌, [], length, take, replicate};
+ghost use Rattle.std.specs.Prelude.{IfOk, IsOk, IsTrue, MatchOption, is_ok, if◌then◌else◌};
 ghost use Rattle.std.specs.Int.{is_power_of_two};
 ghost use Rattle.std.specs.Borrow.{sem};
 ghost use Rattle.std.specs.Cmp.Lexicographic.{pointwise, lists_per, lists_equiv};
@@ -192,7 +193,7 @@ impl<F: Copy + Sample> Poly<F> {
         let num_evals = table_length(variables);
         let mut evals = Vec::with_capacity(alloc, num_evals)?;
         for _ in 0..num_evals {
-            evals.push(F::sample(rng))?;
+            evals.push_reserved(F::sample(rng));
         }
         Ok(Poly { evals })
     }

@@ -2,7 +2,8 @@
 ghost use Rattle.mlu_lanes.specs.LaneRing.{lane_ring};
 ghost use Rattle.mlu_lanes.specs.BabyBear.{baby_bear_ring, baby_bear_laws};
 ghost use Rattle.mlu_ext.specs.Product.{entries_of, product_from, entries_are_lists};
-ghost use Rattle.mlu_ext.specs.ProductMaps.{product_elements, product_of_elements, product_elements_are_lists, product_elements_by_lane, product_elements-splat, product_elements-diagonal, product_transposed};
+ghost use Rattle.mlu_ext.specs.ProductMaps.{product_elements, product_of_elements, product_elements_are_lists, product_elements_by_lane};
+ghost use Rattle.mlu_ext.specs.ProductMaps.{product_elements-splat, product_elements-diagonal, product_transposed};
 
 use super::ProductAlgebra;
 use crate::coefficients::column;

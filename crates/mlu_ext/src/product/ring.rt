@@ -3,7 +3,8 @@ ghost use Rattle.std.specs.Prelude.{slice_index_or};
 ghost use Rattle.std.proofs.Common.{ap};
 ghost use Rattle.mlu_lanes.specs.LaneRing.{splat_two, splat_neg_one};
 ghost use Rattle.mlu_lanes.specs.Entrywise.{Entrywise, EntrywisePair, EntrywiseTriple};
-ghost use Rattle.mlu_ext.specs.Product.{entries_of, product_of, diagonal, product_ring, product_laws, eq_product, entries_zipped_by, entries_mapped_by};
+ghost use Rattle.mlu_ext.specs.Product.{entries_of, product_of, diagonal, product_ring, product_laws};
+ghost use Rattle.mlu_ext.specs.Product.{eq_product, entries_zipped_by, entries_mapped_by};
 
 use super::ProductAlgebra;
 use mlu_lanes::Lanes;

@@ -2,7 +2,8 @@
 ghost use Rattle.mlu_lanes.specs.LaneRing.{lane_ring};
 ghost use Rattle.mlu_lanes.specs.BabyBear.{baby_bear_ring, baby_bear_laws};
 ghost use Rattle.mlu_ext.specs.Quartic.{quartic_coefficients, quartic_of};
-ghost use Rattle.mlu_ext.specs.QuarticPacked.{quartic_elements, quartic_of_elements, quartic_elements_are_lists, quartic_elements_by_lane, quartic_elements-splat, quartic_elements-constant, quartic_transposed};
+ghost use Rattle.mlu_ext.specs.QuarticPacked.{quartic_elements, quartic_of_elements, quartic_elements_are_lists, quartic_elements_by_lane};
+ghost use Rattle.mlu_ext.specs.QuarticPacked.{quartic_elements-splat, quartic_elements-constant, quartic_transposed};
 ghost use Rattle.mlu_ext.specs.QuarticMaps.{quartic_are_lists};
 
 use super::QuarticExtension;

@@ -1,8 +1,10 @@
 //! The ring of the polynomials: sums by coefficients, products modulo X^4 - 11.
 ghost use Rattle.std.specs.Prelude.{◌≡◌};
 ghost use Rattle.mlu_ext.specs.Eleven.{eleven};
-ghost use Rattle.mlu_ext.specs.Quartic.{by_powers, constant, of_four, quartic_ring, Coefficientwise, CoefficientwisePair, CoefficientwiseTriple};
-ghost use Rattle.mlu_ext.specs.QuarticLaws.{quartic_laws, quartic_same, quartic_eq, constant_two, constant_neg_one, coefficients_by, coefficients_each_by};
+ghost use Rattle.mlu_ext.specs.Quartic.{by_powers, constant, of_four, quartic_ring, Coefficientwise};
+ghost use Rattle.mlu_ext.specs.Quartic.{CoefficientwisePair, CoefficientwiseTriple};
+ghost use Rattle.mlu_ext.specs.QuarticLaws.{quartic_laws, quartic_same, quartic_eq, constant_two};
+ghost use Rattle.mlu_ext.specs.QuarticLaws.{constant_neg_one, coefficients_by, coefficients_each_by};
 
 use super::QuarticExtension;
 use mlu_ring::{Additive, PrimeCharacteristicRing};

@@ -15,8 +15,8 @@ use std::alloc::{AllocError, Global};
 impl<F: Field> PolyView<'_, F> {
     /// The polynomial with its first variables at the point, times `scale`: value `z` is `scale`
     /// times the sum over `y` of the weight of `y` times `e[y * s + z]`, where `e` are the values and
-    /// `s` is the number of those that are left. So its value at any `rest` of the variables is `scale` times that of this
-    /// polynomial at the point and then `rest`.
+    /// `s` is the number of those that are left. So the value of the result at `rest` is `scale`
+    /// times that of this polynomial at the point and then `rest`.
     ///
     /// Asks that `n >= k`, where this has `n` variables and the point `k` coordinates.
     ///
@@ -33,8 +33,7 @@ impl<F: Field> PolyView<'_, F> {
         ensures joined { IfOk result (IsJoinedAfter EF.ring scale point.now (length (entries self.now)) (map EF.embed (entries self.now))) }
     {
         let split = SplitEq::<F, EF>::new_packed(alloc, point, scale)?;
-        let folded = split.compress_prefix(alloc, *self)?;
-        Ok(folded)
+        split.compress_prefix(alloc, *self)
     }
 
     /// [`PolyView::compress_prefix`] in packed form: its values are the lanes, joined in order. Asks
@@ -53,14 +52,13 @@ impl<F: Field> PolyView<'_, F> {
             (prefix_compressed EF.ring scale point.now (map EF.embed (entries self.now)))) }
     {
         let split = SplitEq::<F, EF>::new_packed(alloc, point, scale)?;
-        let folded = split.compress_prefix_to_packed(alloc, *self)?;
-        Ok(folded)
+        split.compress_prefix_to_packed(alloc, *self)
     }
 
     /// The polynomial with its last variables at the point, times `scale`: value `y` is `scale`
     /// times the sum over `z` of the weight of `z` times `e[y * t + z]`, where `e` are the values and
-    /// the point has `t` weights. So its value at any `first` of the variables is `scale` times that of this polynomial
-    /// at `first` and then the point.
+    /// the point has `t` weights. So the value of the result at `first` is `scale` times that of this
+    /// polynomial at `first` and then the point.
     ///
     /// Asks that `n >= k`, where this has `n` variables and the point `k` coordinates.
     ///
@@ -78,8 +76,7 @@ impl<F: Field> PolyView<'_, F> {
             (map EF.embed (entries self.now))) }
     {
         let split = SplitEq::<F, EF>::new_packed(alloc, point, scale)?;
-        let folded = split.compress_suffix(alloc, *self)?;
-        Ok(folded)
+        split.compress_suffix(alloc, *self)
     }
 }
 

@@ -11,14 +11,18 @@ use std::alloc::{AllocError, Global};
 /// A polynomial that owns its values, as scalars or in packed form.
 #[derive(Debug, Drop)]
 pub enum PolyMaybePacked<F: Field, EF: ExtensionField<F>> {
+    /// One element for each vertex.
     Scalar(Poly<EF>),
+    /// W values side by side: value i is lane i mod W of element i / W.
     Packed(Poly<EF::ExtensionPacking>),
 }
 
 /// A polynomial that borrows its values, as scalars or in packed form.
 #[derive(Debug)]
 pub enum PolyMaybePackedView<'a, F: Field, EF: ExtensionField<F>> {
+    /// One element for each vertex.
     Scalar(PolyView<'a, EF>),
+    /// W values side by side: value i is lane i mod W of element i / W.
     Packed(PolyView<'a, EF::ExtensionPacking>),
 }
 

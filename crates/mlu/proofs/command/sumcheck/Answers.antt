@@ -12,10 +12,10 @@ returns-in_err-rounds c =
     let x = c.in_ok-table.ensures in
     outcome-memory _ _ _ _ c.from_residual-in_err-rounds.result c.from_residual-in_err-rounds.ensures.1 x.0 x.1 x.2 x.3
 
-pub returns-in_err-lines : goal.returns-in_err-lines
-returns-in_err-lines c =
+pub returns-in_err-proof_lines : goal.returns-in_err-proof_lines
+returns-in_err-proof_lines c =
     let x = c.in_ok-table.ensures in
-    outcome-memory _ _ _ _ c.from_residual-in_err-lines.result c.from_residual-in_err-lines.ensures.1 x.0 x.1 x.2 x.3
+    outcome-memory _ _ _ _ c.from_residual-in_err-proof_lines.result c.from_residual-in_err-proof_lines.ensures.1 x.0 x.1 x.2 x.3
 
 -- the lines of the rounds and of the last claim
 lines : List Element × List Element × List Element → List ℕ
@@ -29,5 +29,5 @@ returns c =
     let p = c.in_ok-table.point in
     let rounds = c.in_ok-rounds.ensures.rounds ∙ ap (rounds_of elements (weights elements p) e) c.as_slice.ensures in
     let last = c.in_ok-rounds.ensures.last ∙ ap (last_claim e p) c.as_slice.ensures in
-    let whole = c.in_ok-lines.ensures ∙ ap (λ r. flat_map line_of r ++ line_of (c.in_ok-rounds.last ∷ [])) rounds ∙ ap (λ y. flat_map line_of (rounds_of elements (weights elements p) e c.in_ok-table.challenges) ++ line_of (y ∷ [])) last in
+    let whole = c.in_ok-proof_lines.ensures ∙ ap (λ r. flat_map line_of r ++ line_of (c.in_ok-rounds.last ∷ [])) rounds ∙ ap (λ y. flat_map line_of (rounds_of elements (weights elements p) e c.in_ok-table.challenges) ++ line_of (y ∷ [])) last in
     (x.0, x.1, x.2, x.3, whole ∙ ap lines x.4)

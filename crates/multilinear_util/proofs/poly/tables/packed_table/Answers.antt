@@ -2,7 +2,7 @@ use Rattle.std.proofs.Common.{◌≡◌, ◌∙◌, ◌-◌, ◌++◌, ◌^◌, 
 use Rattle.std.proofs.Math.Pow.{pow_mono}
 use Rattle.std.proofs.lemmas.List.{length-map, take-append-drop}
 use Rattle.mlu_ring.specs.Tables.{weights}
-use Rattle.mlu_point.proofs.Equality.{length-weights}
+use Rattle.mlu_ring.proofs.Joined.{length-weights}
 use Rattle.multilinear_util.proofs.Outcomes.{ok_more}
 use Rattle.multilinear_util.proofs.EqualityTables.{logical-table}
 use Rattle.multilinear_util.proofs.poly.tables.packed_table.Goals as goal

@@ -1,6 +1,9 @@
 use Rattle.std.proofs.Common.{◌∙◌, map, length, ap, rules}
 use Rattle.mlu_ring.specs.Tables.{front, weights}
+use Rattle.multilinear_util.specs.Compressions.{prefix_compressed, Holds}
+use Rattle.multilinear_util.specs.Split.{split_entries}
 use Rattle.multilinear_util.specs.Views.{entries}
+use Rattle.multilinear_util.proofs.Outcomes.{ok_more}
 use Rattle.multilinear_util.proofs.Scaled.{front-scaled}
 use Rattle.multilinear_util.proofs.Splits.{lanes_half_fits}
 use Rattle.multilinear_util.proofs.poly.view.PolyView.compress_prefix_to_packed.Goals as goal
@@ -13,6 +16,7 @@ pub returns : goal.returns
 returns g c =
     let ring = g.EF.Additive.ring in
     let values = map g.EF.Algebra.embed (entries c.args.self.now) in
-    c.in_ok-folded.ensures
-    ∙ ap (λ w. front ring w values) c.in_ok-split.ensures.value
-    ∙ front-scaled ring g.met.EF.Additive.laws c.args.scale (weights ring c.args.point.now) values
+    let lanes = g.EF.ExtensionPacking.PackedFieldExtension.ext_lanes in
+    ok_more (Holds lanes (front ring (split_entries ring c.in_ok-split.split) values)) (Holds lanes (prefix_compressed ring c.args.scale c.args.point.now values))
+    (λ folded is. is ∙ ap (λ w. front ring w values) c.in_ok-split.ensures.value ∙ front-scaled ring g.met.EF.Additive.laws c.args.scale (weights ring c.args.point.now) values)
+    c.compress_prefix_to_packed.result c.compress_prefix_to_packed.ensures
