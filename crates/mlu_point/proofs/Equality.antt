@@ -1,19 +1,15 @@
 -- The value of the equality table of one point at another, one coordinate at a time.
 use Rattle.std.proofs.Common.{◌≡◌, ℕ, ◌+◌, ◌-◌, ◌^◌, ◌<◌, ◌≤◌, List, [], ◌∷◌, ◌++◌, map, length, get_or, drop, sym, ap, ◌∙◌, arith, length-drop}
 use Rattle.std.proofs.lemmas.List.{map-append, length-map, drop_more, drop_all}
-use Rattle.std.proofs.lemmas.List.FromFn.{length-map-range_with_len}
 use Rattle.mlu_ring.specs.Ring.{Ring, RingLaws, IsRingMap}
-use Rattle.mlu_ring.specs.Tables.{weight, weights, value}
+use Rattle.mlu_ring.specs.Tables.{weights, value}
 use Rattle.mlu_point.specs.Factors.{eq_factor}
 use Rattle.mlu_point.proofs.Complements.{factor-short}
 use Rattle.mlu_point.proofs.Parts.{value-shares, map-scaled}
 use Rattle.mlu_ring.proofs.RingMaps.{map-minus}
 use Rattle.mlu_ring.proofs.Values.{value-none}
+use Rattle.mlu_ring.proofs.Joined.{length-weights}
 use Rattle.mlu_ring.proofs.Doubling.{weights-first, weights-none}
-
-pub length-weights : {R : Type 0} (ring : Ring R) (p : List R) → length (weights ring p) ≡ 2 ^ length p
-unfolding weights
-length-weights ring p = length-map-range_with_len (weight ring p) 0 (2 ^ length p)
 
 module _ {B R : Type 0} (base : Ring B) (base_laws : RingLaws base) (ring : Ring R) (laws : RingLaws ring) (e : B → R) (keeps : IsRingMap base ring e) where
   infixl 50 ◌⊕◌
