@@ -1,4 +1,4 @@
-use Rattle.std.proofs.Common.{◌≡◌, ◌*◌, ◌/◌, ◌<◌, ◌∙◌, length, take, drop, sym, ap, arith, rules}
+use Rattle.std.proofs.Common.{◌+◌, ◌≡◌, ◌*◌, ◌/◌, ◌<◌, ◌∙◌, length, take, drop, sym, ap, arith, rules}
 use Rattle.std.proofs.Math.Nat.{div-mul-le_self}
 use Rattle.std.proofs.Math.Seq.{take-length}
 use Rattle.std.proofs.lemmas.Nat.{div-add-mod'}
