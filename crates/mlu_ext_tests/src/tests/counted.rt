@@ -1,10 +1,12 @@
 //! Elements made of their coefficients one after the other.
 //!
 //! The bound names the field: a call with two types as parameters is more than the prover takes over copies.
-use super::{Bear, quartic};
+ghost use Rattle.std.specs.Prelude.{◌≡◌, ◌<◌, length};
+
+use super::{Bear, Quartic, quartic};
 use mlu_ext::ProductAlgebra;
 use mlu_lanes::Lanes;
-use mlu_ring::{Additive, ExtensionField, PackedFieldExtension};
+use mlu_ring::{Additive, ExtensionField, PackedFieldExtension, PackedValue};
 use mlu_test_support::lanes::lanes;
 use mlu_test_support::lists::filled;
 use std::alloc::{AllocError, Global};
@@ -33,6 +35,37 @@ fn counts<EF: ExtensionField<Bear>>(
         total = total + *lane;
     }
     Ok(counted == element && total == sum)
+}
+
+/// The element with these coefficients, which are read by their numbers.
+fn of_list<EF: ExtensionField<Bear>>(coefficients: &[Bear]) -> EF
+    requires { length coefficients.now ≡ EF.DIMENSION }
+{
+    EF::from_coefficients_fn(
+        |k|
+            requires { k < length coefficients.now }
+        { coefficients[k] },
+    )
+}
+
+/// The packed value with these coefficients, which are read by their numbers.
+fn of_packed_list<EF: ExtensionField<Bear>>(coefficients: &[Lanes<Bear, 4>]) -> EF::ExtensionPacking
+    requires { length coefficients.now ≡ EF.DIMENSION }
+{
+    EF::ExtensionPacking::from_packed_coefficients_fn(
+        |k|
+            requires { k < length coefficients.now }
+        { coefficients[k] },
+    )
+}
+
+#[test]
+fn quartics_of_lists(rt: HostRuntime) -> Result<(), Fail> {
+    let coefficients = [1, 2, 3, 4].map(Bear::from_u32);
+    assert!(rt; of_list::<Quartic>(&coefficients) == quartic(1, 2, 3, 4));
+    let packed = of_packed_list::<Quartic>(&coefficients.map(Lanes::<Bear, 4>::splat));
+    assert!(rt; packed.ext_lane(3) == quartic(1, 2, 3, 4));
+    Ok(())
 }
 
 #[test]
