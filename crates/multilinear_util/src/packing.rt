@@ -5,7 +5,6 @@ ghost use Rattle.multilinear_util.specs.Storage.{IsTable};
 
 use mlu_ring::{
     ExtensionField, Field, Lanewise, PackedFieldExtension, PackedValue, PrimeCharacteristicRing,
-    row_of_width,
 };
 use std::alloc::{AllocError, Global};
 
@@ -23,7 +22,8 @@ pub(crate) fn packed<F: Field, EF: ExtensionField<F>>(
     let groups = evals.len() / width;
     let mut elements = Vec::with_capacity(alloc, groups)?;
     for i in 0..groups {
-        let packing = EF::ExtensionPacking::from_ext_slice(row_of_width(evals, width, i));
+        let start = i * width;
+        let packing = EF::ExtensionPacking::from_ext_slice(&evals[start..start + width]);
         elements.push_reserved(packing);
     }
     Ok(elements)
