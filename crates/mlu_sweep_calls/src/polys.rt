@@ -1,13 +1,9 @@
 //! Polynomials at a point, and tables of the point, without a split table between.
-ghost use Rattle.std.specs.Prelude.{◌≡◌, ◌*◌, ◌≤◌, ◌^◌, length};
 
-use crate::definitions::{compressed_prefix, compressed_suffix, dot, next_dot, next_table, table};
-use crate::lanes::{in_lanes, unpacked};
+use crate::definitions::{next_by, table};
 use crate::report::Report;
-use mlu_ring::{ExtensionField, Field, PackedValue, PrimeCharacteristicRing};
-use mlu_test_support::lists::filled;
+use mlu_ring::{ExtensionField, Field, PackedValue};
 use mlu_test_support::plain;
-use mlu_test_tables::poly;
 use multilinear_util::point::{Point, Successor};
 use multilinear_util::poly::{Poly, PolyMaybePacked};
 use std::alloc::{AllocError, Global};
@@ -23,113 +19,119 @@ pub fn evaluate<F: Field, EF: ExtensionField<F>>(
     if base.num_variables() != variables || ext.num_variables() != variables {
         return Err(AllocError);
     }
-    let weights = table(alloc, point.as_slice(), EF::ONE)?;
     let constant = ext.as_constant().is_some();
     report.agrees("Poly::as_constant", constant == (variables == 0));
-    over_the_base(alloc, report, point, &weights, base);
-    let value = plain::dot(&weights, ext.as_slice());
-    let answer = ext.eval_ext::<F>(alloc, point);
-    report.results("Poly::eval_ext", answer, Ok(value));
-    in_each_storage::<F, EF>(alloc, report, point, ext, value)
+    let weights = table(alloc, point.as_slice(), EF::ONE)?;
+    let images: Vec<EF> = plain::images(alloc, base.as_slice())?;
+    let value = base.eval_base(alloc, point)?;
+    report.value("Poly::eval_base", value, plain::dot(&weights, &images));
+    let value = ext.eval_ext::<F>(alloc, point)?;
+    report.value(
+        "Poly::eval_ext",
+        value,
+        plain::dot(&weights, ext.as_slice()),
+    );
+    let repeated = plain::dot(&next_by(alloc, Successor::RepeatLast, &weights)?, &images);
+    let value = base.eval_next_base(alloc, point)?;
+    report.value("Poly::eval_next_base", value, repeated);
+    let value = base.eval_next_base_by(alloc, Successor::RepeatLast, point)?;
+    report.value("Poly::eval_next_base_by RepeatLast", value, repeated);
+    let wrapped = plain::dot(&next_by(alloc, Successor::Wrap, &weights)?, &images);
+    let value = base.eval_next_base_by(alloc, Successor::Wrap, point)?;
+    report.value("Poly::eval_next_base_by Wrap", value, wrapped);
+    Ok(())
 }
 
-/// Compares the values of a polynomial over the base.
-fn over_the_base<F: Field, EF: ExtensionField<F>>(
-    alloc: Global,
-    report: &mut Report,
-    point: &Point<EF>,
-    weights: &[EF],
-    base: &Poly<F>,
-)
-    requires { length base.now ≡ 2 ^ length point.now }
-{
-    let values = base.as_slice();
-    let answer = base.eval_base(alloc, point);
-    report.results("Poly::eval_base", answer, dot(alloc, weights, values));
-    let repeated = next_dot(alloc, Successor::RepeatLast, weights, values);
-    let answer = base.eval_next_base(alloc, point);
-    report.results("Poly::eval_next_base", answer, repeated);
-    let answer = base.eval_next_base_by(alloc, Successor::RepeatLast, point);
-    report.results("Poly::eval_next_base_by RepeatLast", answer, repeated);
-    let wrapped = next_dot(alloc, Successor::Wrap, weights, values);
-    let answer = base.eval_next_base_by(alloc, Successor::Wrap, point);
-    report.results("Poly::eval_next_base_by Wrap", answer, wrapped);
-}
-
-/// Compares the value of a polynomial in either storage, and in lanes where there are values for one
-/// packing.
-fn in_each_storage<F: Field, EF: ExtensionField<F>>(
+/// Compares the value of a polynomial in lanes, where there are values for one packing.
+pub fn evaluate_lanes<F: Field, EF: ExtensionField<F>>(
     alloc: Global,
     report: &mut Report,
     point: &Point<EF>,
     ext: &Poly<EF>,
-    value: EF,
-) -> Result<(), AllocError>
-    requires { length ext.now ≡ 2 ^ length point.now }
-{
-    let scalars = PolyMaybePacked::Scalar(ext.try_clone(alloc)?);
-    let answer = value_stored::<F, EF>(alloc, point, scalars);
-    report.results("PolyMaybePacked::eval", answer, Ok(value));
+) -> Result<(), AllocError> {
+    let variables = point.num_variables();
+    if ext.num_variables() != variables || variables >= 32 {
+        return Err(AllocError);
+    }
     if ext.num_evals() < F::Packing::WIDTH {
         return Ok(());
     }
-    let lanes = in_lanes::<F, EF>(alloc, ext)?;
-    let answer = lanes.eval_packed::<F, EF>(alloc, point);
-    report.results("Poly::eval_packed", answer, Ok(value));
-    let answer = value_stored::<F, EF>(alloc, point, PolyMaybePacked::Packed(lanes));
-    report.results("PolyMaybePacked::eval of lanes", answer, Ok(value));
-    unpack_into::<F, EF>(alloc, report, ext)
-}
-
-/// Compares the lanes of a polynomial in lanes, written over twos.
-fn unpack_into<F: Field, EF: ExtensionField<F>>(
-    alloc: Global,
-    report: &mut Report,
-    ext: &Poly<EF>,
-) -> Result<(), AllocError>
-    requires { F.Packing.WIDTH ≤ length ext.now }
-{
-    let lanes = in_lanes::<F, EF>(alloc, ext)?;
-    let mut written = poly(filled(alloc, EF::TWO, ext.num_evals())?)?;
+    let weights = table(alloc, point.as_slice(), EF::ONE)?;
+    let lanes = ext.pack::<F, EF>(alloc)?;
+    if lanes.num_evals().checked_mul(F::Packing::WIDTH) != Some(1 << variables) {
+        return Err(AllocError);
+    }
+    let value = lanes.eval_packed::<F, EF>(alloc, point)?;
+    report.value(
+        "Poly::eval_packed",
+        value,
+        plain::dot(&weights, ext.as_slice()),
+    );
+    let mut written = Poly::<EF>::zero(alloc, variables)?;
     lanes.unpack_into::<F, EF>(&mut written);
     report.values("Poly::unpack_into", written.as_slice(), ext.as_slice());
     Ok(())
 }
 
-/// The value of a polynomial in either storage. Fails where the point has not as many coordinates as it
-/// has variables.
-fn value_stored<F: Field, EF: ExtensionField<F>>(
+/// Compares the value of a polynomial in either storage, in lanes where there are values for one
+/// packing.
+pub fn evaluate_storages<F: Field, EF: ExtensionField<F>>(
     alloc: Global,
+    report: &mut Report,
     point: &Point<EF>,
-    storage: PolyMaybePacked<F, EF>,
-) -> Result<EF, AllocError> {
+    ext: &Poly<EF>,
+) -> Result<(), AllocError> {
+    let weights = table(alloc, point.as_slice(), EF::ONE)?;
+    let defined = plain::dot(&weights, ext.as_slice());
+    let mut storage: PolyMaybePacked<F, EF> = PolyMaybePacked::Scalar(ext.try_clone(alloc)?);
     if storage.num_variables() != point.num_variables() {
         return Err(AllocError);
     }
-    storage.eval(alloc, point)
+    let value = storage.eval(alloc, point)?;
+    report.value("PolyMaybePacked::eval", value, defined);
+    if ext.num_evals() < F::Packing::WIDTH {
+        return Ok(());
+    }
+    storage = PolyMaybePacked::Packed(ext.pack::<F, EF>(alloc)?);
+    if storage.num_variables() != point.num_variables() {
+        return Err(AllocError);
+    }
+    let value = storage.eval(alloc, point)?;
+    report.value("PolyMaybePacked::eval of lanes", value, defined);
+    Ok(())
 }
 
 /// Compares the tables of a point.
-pub fn tabulate<R: PrimeCharacteristicRing>(
+pub fn tabulate<F: Field, EF: ExtensionField<F>>(
     alloc: Global,
     report: &mut Report,
-    point: &[R],
-    scale: R,
+    point: &Point<EF>,
+    scale: EF,
 ) -> Result<(), AllocError> {
-    if point.len() >= 32 {
+    let coordinates = point.as_slice();
+    if coordinates.len() >= 32 {
         return Err(AllocError);
     }
-    let answer = Poly::new_from_point(alloc, point, scale);
-    report.tables("Poly::new_from_point", answer, table(alloc, point, scale));
-    let repeated = next_table(alloc, Successor::RepeatLast, point);
-    let answer = Poly::new_next_from_point(alloc, point);
-    report.tables("Poly::new_next_from_point", answer, repeated);
-    let repeated = next_table(alloc, Successor::RepeatLast, point);
-    let answer = Poly::new_next_from_point_by(alloc, Successor::RepeatLast, point);
-    report.tables("Poly::new_next_from_point_by RepeatLast", answer, repeated);
-    let wrapped = next_table(alloc, Successor::Wrap, point);
-    let answer = Poly::new_next_from_point_by(alloc, Successor::Wrap, point);
-    report.tables("Poly::new_next_from_point_by Wrap", answer, wrapped);
+    let scaled = table(alloc, coordinates, scale)?;
+    let made = Poly::new_from_point(alloc, coordinates, scale)?;
+    report.values("Poly::new_from_point", made.as_slice(), &scaled);
+    let weights = table(alloc, coordinates, EF::ONE)?;
+    let repeated = next_by(alloc, Successor::RepeatLast, &weights)?;
+    let made = Poly::new_next_from_point(alloc, coordinates)?;
+    report.values("Poly::new_next_from_point", made.as_slice(), &repeated);
+    let made = Poly::new_next_from_point_by(alloc, Successor::RepeatLast, coordinates)?;
+    report.values(
+        "Poly::new_next_from_point_by RepeatLast",
+        made.as_slice(),
+        &repeated,
+    );
+    let wrapped = next_by(alloc, Successor::Wrap, &weights)?;
+    let made = Poly::new_next_from_point_by(alloc, Successor::Wrap, coordinates)?;
+    report.values(
+        "Poly::new_next_from_point_by Wrap",
+        made.as_slice(),
+        &wrapped,
+    );
     Ok(())
 }
 
@@ -137,18 +139,20 @@ pub fn tabulate<R: PrimeCharacteristicRing>(
 pub fn tabulate_lanes<F: Field, EF: ExtensionField<F>>(
     alloc: Global,
     report: &mut Report,
-    point: &[EF],
+    point: &Point<EF>,
     scale: EF,
 ) -> Result<(), AllocError> {
-    if point.len() >= 32 {
+    let coordinates = point.as_slice();
+    if coordinates.len() >= 32 {
         return Err(AllocError);
     }
-    if point.len() >= F::Packing::LOG_WIDTH {
-        let defined = table(alloc, point, scale);
-        let answer = Poly::new_packed_from_point::<F, EF>(alloc, point, scale);
-        let answer = unpacked::<F, EF>(alloc, answer);
-        report.tables("Poly::new_packed_from_point", answer, defined);
+    if coordinates.len() < F::Packing::LOG_WIDTH {
+        return Ok(());
     }
+    let scaled = table(alloc, coordinates, scale)?;
+    let made = Poly::new_packed_from_point::<F, EF>(alloc, coordinates, scale)?;
+    let made = made.unpack::<F, EF>(alloc)?;
+    report.values("Poly::new_packed_from_point", made.as_slice(), &scaled);
     Ok(())
 }
 
@@ -160,23 +164,22 @@ pub fn compress<F: Field, EF: ExtensionField<F>>(
     (point, scale): (&Point<EF>, EF),
     base: &Poly<F>,
 ) -> Result<(), AllocError> {
-    let entries = table(alloc, point.as_slice(), scale)?;
-    if entries.len() > base.num_evals() {
+    if point.num_variables() >= 32 || 1 << point.num_variables() > base.num_evals() {
         return Err(AllocError);
     }
-    let prefix = compressed_prefix(alloc, &entries, base.as_slice());
-    let answer = base.compress_prefix(alloc, point, scale);
-    report.tables("Poly::compress_prefix", answer, prefix);
-    let suffix = compressed_suffix(alloc, &entries, base.as_slice());
-    let answer = base.compress_suffix(alloc, point, scale);
-    report.tables("Poly::compress_suffix", answer, suffix);
-    match entries.len().checked_mul(F::Packing::WIDTH) {
-        Some(least) if least <= base.num_evals() => {}
-        _ => return Ok(()),
+    let entries = table(alloc, point.as_slice(), scale)?;
+    let images: Vec<EF> = plain::images(alloc, base.as_slice())?;
+    let prefix = plain::compressed_prefix(alloc, &entries, &images)?;
+    let left = base.compress_prefix(alloc, point, scale)?;
+    report.values("Poly::compress_prefix", left.as_slice(), &prefix);
+    let suffix = plain::compressed_suffix(alloc, &entries, &images)?;
+    let left = base.compress_suffix(alloc, point, scale)?;
+    report.values("Poly::compress_suffix", left.as_slice(), &suffix);
+    let least = (1usize << point.num_variables()).checked_mul(F::Packing::WIDTH);
+    if least.is_some_and(|least| least <= base.num_evals()) {
+        let left = base.compress_prefix_to_packed(alloc, point, scale)?;
+        let left = left.unpack::<F, EF>(alloc)?;
+        report.values("Poly::compress_prefix_to_packed", left.as_slice(), &prefix);
     }
-    let prefix = compressed_prefix(alloc, &entries, base.as_slice());
-    let answer = base.compress_prefix_to_packed(alloc, point, scale);
-    let answer = unpacked::<F, EF>(alloc, answer);
-    report.tables("Poly::compress_prefix_to_packed", answer, prefix);
     Ok(())
 }

@@ -31,7 +31,7 @@ pub fn sweep<F: Field + Sample, EF: ExtensionField<F> + SelfAlgebra + Sample>(
         polynomials::<F, EF>(alloc, &mut report, &mut rng, variables)?;
         tables::<F, EF>(alloc, &mut report, &mut rng, variables)?;
     }
-    report.outcome()
+    Ok(report.difference)
 }
 
 /// Compares the calls on drawn polynomials of so many variables.
@@ -66,9 +66,11 @@ fn fold<F: Field + Sample, EF: ExtensionField<F> + SelfAlgebra + Sample>(
     (base, ext): (&Poly<F>, &Poly<EF>),
 ) -> Result<(), AllocError> {
     folds::into_the_extension(alloc, report, base, element::<EF>(rng))?;
-    folds::in_place::<EF, EF>(alloc, report, ext, element(rng));
+    folds::in_place::<EF, EF>(alloc, report, ext, element(rng))?;
+    folds::of_coefficients::<EF, EF>(alloc, report, ext, element(rng))?;
     report.form = " at the base";
-    folds::in_place::<F, EF>(alloc, report, ext, element(rng));
+    folds::in_place::<F, EF>(alloc, report, ext, element(rng))?;
+    folds::of_coefficients::<F, EF>(alloc, report, ext, element(rng))?;
     report.form = "";
     Ok(())
 }
@@ -87,6 +89,8 @@ fn at_a_point<F: Field, EF: ExtensionField<F> + Sample>(
     polys::compress(alloc, report, (&point, scale), base)?;
     if base.num_variables() == coordinates {
         polys::evaluate(alloc, report, &point, (base, ext))?;
+        polys::evaluate_lanes::<F, EF>(alloc, report, &point, ext)?;
+        polys::evaluate_storages::<F, EF>(alloc, report, &point, ext)?;
     }
     Ok(())
 }
@@ -98,6 +102,8 @@ fn tables<F: Field + Sample, EF: ExtensionField<F> + Sample>(
     rng: &mut Pcg32,
     variables: usize,
 ) -> Result<(), AllocError> {
+    let point = Point::new(elements::<EF>(alloc, rng, variables)?);
+    let scale = element(rng);
     report.shape = Shape::Polynomial {
         variables,
         coordinates: variables,
@@ -105,22 +111,10 @@ fn tables<F: Field + Sample, EF: ExtensionField<F> + Sample>(
     slices::evaluate::<F, EF>(alloc, report, rng, variables)?;
     points::over_both::<F, EF>(alloc, report, rng, variables)?;
     points::steps::<EF>(alloc, report, rng, variables)?;
-    of_a_point::<F, EF>(alloc, report, rng, variables)?;
+    polys::tabulate::<F, EF>(alloc, report, &point, scale)?;
+    polys::tabulate_lanes::<F, EF>(alloc, report, &point, scale)?;
     for points in 0..=MOST_POINTS {
         batches::sum_tables::<F, EF>(alloc, report, rng, points, variables)?;
     }
     Ok(())
-}
-
-/// Compares the tables of a drawn point of so many coordinates, with a drawn scale.
-fn of_a_point<F: Field, EF: ExtensionField<F> + Sample>(
-    alloc: Global,
-    report: &mut Report,
-    rng: &mut Pcg32,
-    coordinates: usize,
-) -> Result<(), AllocError> {
-    let point: Vec<EF> = elements(alloc, rng, coordinates)?;
-    let scale = element(rng);
-    polys::tabulate(alloc, report, &point, scale)?;
-    polys::tabulate_lanes::<F, EF>(alloc, report, &point, scale)
 }
