@@ -202,7 +202,7 @@ fn sumcheck(variables: usize) {
 }
 
 /// A round and its fold, with its claim known and without, beside the fold alone and one pass over both
-/// tables, interleaved. The last rows are the first two, to the sum of those two, each less its copies.
+/// tables, interleaved.
 fn one_round<'a>(variables: usize, poly: &'a [Ext], weights: &'a [Ext], r: Ext, library: impl Fn(u32) -> Repeated<'a>) {
     let names = [
         "sumcheck round of a claim and fold, and copies",
@@ -246,6 +246,11 @@ fn one_round<'a>(variables: usize, poly: &'a [Ext], weights: &'a [Ext], r: Ext, 
         assert_eq!(sides[2 * i](3), sides[2 * i + 1](3), "{name}");
         print_row(name, variables, times[2 * i], times[2 * i + 1]);
     }
+    print_ratios(variables, &times);
+}
+
+/// A round and its fold, to the fold and one pass, each less its copies.
+fn print_ratios(variables: usize, times: &[f64]) {
     let to_both = |first: usize, side: usize| {
         let [both, fold, copies, pass] = [first, 4, 6, 8].map(|i| times[i + side]);
         (both - copies) / (fold - copies + pass)

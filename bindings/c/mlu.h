@@ -52,15 +52,15 @@ uint32_t mlu_eval_ext(const uint32_t *table, size_t table_len,
                       const uint32_t *point, size_t point_len,
                       uint32_t *out, size_t out_len);
 
-/* The sum over all vertices of the weight at a point times the value at the next vertex, of a table
- * over the base field: the weight of x times value x + 1, and the last weight times the last
- * value. */
+/* The sum over all vertices of the weight at a point of the extension times the value at the next
+ * vertex, of a table over the base field: the weight of x times value x + 1, and the last weight
+ * times the last value. */
 uint32_t mlu_eval_next_base(const uint32_t *table, size_t table_len,
                             const uint32_t *point, size_t point_len,
                             uint32_t *out, size_t out_len);
 
-/* The weights of all vertices at a point, each times a scale: 2^k elements, where the point has k
- * coordinates. Coordinate 0 reads the highest bit of an index. */
+/* The weights of all vertices at a point of the extension, each times a scale of it: 2^k elements of
+ * the extension, where the point has k coordinates. Coordinate 0 reads the highest bit of an index. */
 uint32_t mlu_equality_weights_msb(const uint32_t *point, size_t point_len,
                                   const uint32_t *scale, size_t scale_len,
                                   uint32_t *out, size_t out_len);
@@ -72,8 +72,8 @@ uint32_t mlu_equality_weights_lsb(const uint32_t *point, size_t point_len,
 
 /* The sum of the equality tables of points, each times its scalar, written to out, or added to it
  * where `adds`. The values stand row after row: coordinate 0 of each point, then coordinate 1 of
- * each, and so on; there is a scalar for each point. With no points there are no values, and out
- * may be any table. */
+ * each, and so on; coordinate 0 reads the highest bit of an index, and there is a scalar for each
+ * point. All are of the extension. With no points there are no values, and out may be any table. */
 uint32_t mlu_eval_eq_batch(bool adds,
                            const uint32_t *values, size_t values_len,
                            const uint32_t *scalars, size_t scalars_len,

@@ -5,8 +5,8 @@ use crate::sys::mlu_eval_eq_batch;
 use crate::{Ext, Table};
 
 /// Writes to `out[x]` the sum over the points of scalar times weight of `x`, or adds it there where
-/// `INITIALIZED`. Each column of `evals` is a point, and each row a variable: `evals[j * points + i]`
-/// is coordinate `j` of point `i`.
+/// `INITIALIZED`. Each column of `evals` is a point and each row a variable: `evals[j * points + i]`
+/// is coordinate `j` of point `i`, and coordinate 0 reads the highest bit of `x`.
 ///
 /// ```
 /// use mlu::{Table, eval_eq_batch, ext};

@@ -1,6 +1,5 @@
 //! Multilinear polynomials over the integers modulo 2013265921 (BabyBear) and their extension of
-//! degree four, by calls that are proved: of each call it is proved what it answers, in words that
-//! any sizes and any values may be handed to.
+//! degree four, by calls whose answers are proved, for operands of any size and any words.
 //!
 //! A polynomial is its [`Table`]: its `2^n` values at the vertices of the cube, where variable 0
 //! reads the highest bit of an index. An element of the base field is a [`Base`], its least residue,

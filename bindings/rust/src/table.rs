@@ -104,8 +104,8 @@ impl Table<Base> {
         Ok(out)
     }
 
-    /// The sum of the values, each times the weight at the point of the vertex that it is the next
-    /// of: the weight of `x` times value `x + 1`, and the last weight times the last value.
+    /// The sum of the weight of each vertex at the point times the value at the next vertex: the weight
+    /// of `x` times value `x + 1`, and the last weight times the last value.
     ///
     /// # Errors
     /// As [`Table::eval_base`].

@@ -55,8 +55,8 @@ pub extern "C" fn mlu_eval_ext(alloc: Global, table: &[u32], point: &[u32], out:
     status(evaluation::eval_ext::<Element, Extension>(alloc, table, point, out))
 }
 
-/// The sum of the weight at a point of each vertex times the value at the next one, of a table over
-/// the base field.
+/// The sum of the weight at a point of the extension of each vertex times the value at the next one, of a
+/// table over the base field.
 #[unsafe(no_mangle)]
 pub extern "C" fn mlu_eval_next_base(
     alloc: Global,
@@ -69,8 +69,8 @@ pub extern "C" fn mlu_eval_next_base(
     status(evaluation::eval_next_base::<Element, Extension>(alloc, table, point, out))
 }
 
-/// The weights of all vertices at a point, where coordinate 0 reads the highest bit of an index,
-/// each times a scale.
+/// The weights of all vertices at a point of the extension, where coordinate 0 reads the highest bit of an
+/// index, each times a scale.
 #[unsafe(no_mangle)]
 pub extern "C" fn mlu_equality_weights_msb(
     alloc: Global,
@@ -83,8 +83,8 @@ pub extern "C" fn mlu_equality_weights_msb(
     status(tables::equality_weights::<Extension>(alloc, BitOrder::Msb, point, scale, out))
 }
 
-/// The weights of all vertices at a point, where coordinate 0 reads the lowest bit of an index,
-/// each times a scale.
+/// The weights of all vertices at a point of the extension, where coordinate 0 reads the lowest bit of an
+/// index, each times a scale.
 #[unsafe(no_mangle)]
 pub extern "C" fn mlu_equality_weights_lsb(
     alloc: Global,
@@ -98,7 +98,8 @@ pub extern "C" fn mlu_equality_weights_lsb(
 }
 
 /// The sum of the equality tables of points, each times a scalar, written to the output or added to
-/// it. Each column of the values is a point, and each row a variable.
+/// it, all of the extension. Each column of the values is a point and each row a variable; row 0 reads the
+/// highest bit of an index.
 #[unsafe(no_mangle)]
 pub extern "C" fn mlu_eval_eq_batch(
     alloc: Global,

@@ -7,8 +7,8 @@ use Rattle.mlu_ring.specs.Lanes.{logical}
 use Rattle.mlu_ring.specs.Ring.{Ring}
 use Rattle.mlu_ring.specs.Successor.{shifted}
 use Rattle.mlu_ring.specs.Sums.{plus_scaled}
-use Rattle.mlu_ring.specs.Tables.{back, pair}
-use Rattle.mlu_kernel.specs.Kernels.{plus_rows}
+use Rattle.mlu_ring.specs.Tables.{back}
+use Rattle.mlu_kernel.specs.Kernels.{double_sum, plus_rows}
 use Rattle.mlu_kernel.specs.declared.small.TheConstants.{SMALL_BYTES}
 
 -- entry x is eq0[x / n] times w[x % n], where n is the length of w
@@ -55,9 +55,9 @@ plus_leading_rows ring embed lanes width old factor weights rows =
 abbrev pub packed_back : {Q V : Type 0} → Ring V → (Q → List V) → (List V → List V) → List V → List Q → List V → List V
 packed_back ring lanes moved eq0 weights entries = back ring (moved (contents ring eq0 (logical lanes weights))) entries
 
--- the sum of the lanes of packed entries, each times its entry of the table of eq0 and the lanes of packed weights
-abbrev pub packed_pair : {Q V : Type 0} → Ring V → (Q → List V) → List V → List Q → List Q → V
-packed_pair ring lanes eq0 weights entries = pair ring (contents ring eq0 (logical lanes weights)) (logical lanes entries)
+-- the double sum of the lanes of packed weights and packed entries
+abbrev pub packed_sum : {Q V : Type 0} → Ring V → (Q → List V) → List V → List Q → List Q → V
+packed_sum ring lanes eq0 weights entries = double_sum ring eq0 (logical lanes weights) (logical lanes entries)
 
 -- the entries, each times the scale, are added to the lanes of the packed places, joined in order
 abbrev pub AddsScaled : {Q V : Type 0} → Ring V → (Q → List V) → V → List V → List Q → List Q → Type 0
@@ -78,3 +78,7 @@ constants of_coefficients column = map (λ c. of_coefficients (c ∷ [])) column
 -- weights of one coefficient, so many at most, which take few bytes
 abbrev pub AreConstants : ℕ → ℕ → ℕ → RattleType → Type 0
 AreConstants dimension weights most base = (dimension ≡ 1) × (weights ≤ most) × (type_size base < SMALL_BYTES)
+
+-- so many packed weights have at most this many lanes, elements that take few bytes
+abbrev pub HasFewLanes : ℕ → ℕ → ℕ → RattleType → Type 0
+HasFewLanes width weights most element = (weights * width ≤ most) × (type_size element < SMALL_BYTES)

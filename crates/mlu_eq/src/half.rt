@@ -167,21 +167,16 @@ pub fn from_packed<F: Field, EF: ExtensionField<F>>(
 /// # Errors
 /// Where memory is refused, or the number of the weights does not fit `usize`.
 pub fn to_field<F: Field, EF: ExtensionField<F>, R: ExtensionField<R> + MapFrom<EF>>(
-    table: &EqMaybePacked<F, EF>,
     alloc: Global,
+    table: &EqMaybePacked<F, EF>,
 ) -> Result<EqMaybePacked<R, R>, AllocError>
     ensures { IfOk result (λ images. images ≡ record { weights = map R.image table.now.weights; packed = false }) }
 {
-    match &table.weights {
-        Stored::Scalar(weights) => {
-            let images = images(alloc, weights.as_slice())?;
-            Ok(from_scalars(images))
-        }
-        Stored::Packed(weights) => {
-            let images = lane_images::<F, EF, R>(alloc, weights.as_slice())?;
-            Ok(from_scalars(images))
-        }
-    }
+    let images = match &table.weights {
+        Stored::Scalar(weights) => images(alloc, weights.as_slice())?,
+        Stored::Packed(weights) => lane_images::<F, EF, R>(alloc, weights.as_slice())?,
+    };
+    Ok(from_scalars(images))
 }
 
 /// The images of the elements, in order and in one allocation of exactly as many.

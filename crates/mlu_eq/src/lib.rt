@@ -21,6 +21,7 @@ mod line;
 mod prefix;
 pub mod split;
 mod suffix;
+mod unpack;
 
 pub use evaluation::{eval_base, eval_ext};
 pub use half::EqMaybePacked;
@@ -29,3 +30,4 @@ pub use prefix::{
     fold_prefix_to_packed, sum_halves_in_place,
 };
 pub use suffix::{fold_suffix, fold_suffix_by_base, fold_suffix_in_place};
+pub use unpack::unpack_into;

@@ -7,6 +7,7 @@
 pub(crate) mod accumulate;
 mod constants;
 mod dot;
+mod elements;
 mod prefix;
 pub mod runs;
 mod shifted;

@@ -26,7 +26,8 @@ use shares::{split_shares, sum};
 use std::alloc::{AllocError, Global};
 
 /// Writes to `out[x]` the sum over the points of scalar times weight of `x`, or adds it there where
-/// `INITIALIZED`. Each column of `evals` is a point, and each row a variable.
+/// `INITIALIZED`. Each column of `evals` is a point and each row a variable;
+/// row 0 reads the highest bit of `x`.
 ///
 /// Asks for as many scalars as columns, and for `2^height` places. With no points any output is
 /// taken; it becomes zeros, or is left where `INITIALIZED`.

@@ -74,6 +74,11 @@ fn quartics(alloc: Global, row: Row) -> Result<bool, AllocError> {
     holds::<QuarticExtension<BabyBear<4>>, QuarticExtension<BabyBear<4>>>(alloc, row)
 }
 
+/// [`holds`] over residues of two lanes alone.
+fn narrow(alloc: Global, row: Row) -> Result<bool, AllocError> {
+    holds::<BabyBear<2>, BabyBear<2>>(alloc, row)
+}
+
 /// [`holds`] over an extension of residues. The bound names its field, since at products a call with
 /// two types as parameters is more than the prover takes.
 fn over_residues<EF: ExtensionField<BabyBear<4>>>(
@@ -179,6 +184,7 @@ fn values_at_points(rt: HostRuntime) -> Result<(), Fail> {
 #[test]
 fn batches_of_points(rt: HostRuntime) -> Result<(), Fail> {
     assert!(rt; quartics(rt.alloc(), Row::Batches)?);
+    assert!(rt; narrow(rt.alloc(), Row::Batches)?);
     assert!(rt; pairs(rt.alloc(), Row::Batches)?);
     Ok(())
 }

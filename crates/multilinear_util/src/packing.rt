@@ -1,8 +1,9 @@
 //! Tables of scalars as tables of packed elements, and back.
-ghost use Rattle.std.specs.Prelude.{◌≡◌, ◌*◌, ◌%◌, ◌≤◌, length, IfOk};
+ghost use Rattle.std.specs.Prelude.{◌≡◌, ◌%◌, ◌≤◌, length, IfOk};
 ghost use Rattle.mlu_ring.specs.Lanes.{logical};
 ghost use Rattle.multilinear_util.specs.Storage.{IsTable};
 
+use mlu_eq::unpack_into;
 use mlu_ring::{
     ExtensionField, Field, Lanewise, PackedFieldExtension, PackedValue, PrimeCharacteristicRing,
 };
@@ -27,21 +28,6 @@ pub(crate) fn packed<F: Field, EF: ExtensionField<F>>(
         elements.push_reserved(packing);
     }
     Ok(elements)
-}
-
-/// Writes the lanes of `elements`, joined in order. Asks for as many places.
-pub(crate) fn unpack_into<F: Field, EF: ExtensionField<F>>(
-    elements: &[EF::ExtensionPacking],
-    out: &mut [EF],
-)
-    requires { length out.old ≡ length elements.now * F.Packing.WIDTH }
-    ensures { out.new ≡ logical EF.ExtensionPacking.ext_lanes elements.now }
-{
-    let width = <F::Packing as PackedValue>::WIDTH;
-    for (i, element) in elements.iter().enumerate() {
-        let start = i * width;
-        element.store_ext(&mut out[start..start + width]);
-    }
 }
 
 /// The lanes of `elements`, joined in order. Fails too where their number does not fit `usize`.

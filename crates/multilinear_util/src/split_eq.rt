@@ -106,7 +106,7 @@ impl<F: Field, EF: ExtensionField<F>> SplitEq<F, EF> {
         ensures images { IsRingMap EF.ring R.ring R.image → IfOk result (HasImages EF.ring R.ring R.image self.now) }
     {
         let eq0 = Poly::new(half::images(alloc, self.eq0.as_slice())?);
-        let eq1 = half::to_field(&self.eq1, alloc)?;
+        let eq1 = half::to_field(alloc, &self.eq1)?;
         Ok(SplitEq { eq0, eq1 })
     }
 

@@ -11,12 +11,12 @@ use mlu_kernel::small::{SMALL_BYTES, is_small};
 use mlu_ring::{Additive, ExtensionField, Field, row_of};
 
 /// The coefficients that begin at zero for short rows.
-pub(super) const FEW_WEIGHTS: usize = 128;
+pub(super) const FEW_CONSTANTS: usize = 128;
 
 /// The most coefficients that are read to the stack.
-pub(super) const MOST_WEIGHTS: usize = 1024;
+pub(super) const MOST_CONSTANTS: usize = 1024;
 
-const _: () = prove!(MOST_WEIGHTS * SMALL_BYTES < 2 << 20);
+const _: () = prove!(MOST_CONSTANTS * SMALL_BYTES < 2 << 20);
 
 /// Whether weights have one coefficient, and so many are at most `most`, with room on the stack.
 #[inline]
@@ -32,7 +32,7 @@ pub(super) fn dot_of_rows_by_constants<F: Field, EF: ExtensionField<F>, const N:
     weights: &[EF],
     entries: &[F],
 ) -> EF
-    requires most { N ≤ MOST_WEIGHTS }
+    requires most { N ≤ MOST_CONSTANTS }
     requires constants { AreConstants EF.DIMENSION (length weights.now) N F.row }
     requires size { length entries.now ≡ length eq0.now * length weights.now }
     ensures { result ≡ double_sum EF.ring eq0.now weights.now (map EF.embed entries.now) }

@@ -4,9 +4,10 @@ ghost use Rattle.mlu_ring.specs.Fours.{in_order};
 ghost use Rattle.mlu_ring.specs.Lanes.{logical};
 ghost use Rattle.mlu_ring.specs.Tables.{pair};
 ghost use Rattle.mlu_kernel.specs.Kernels.{double_sum, HasDot};
-ghost use Rattle.mlu_eq.specs.Split.{contents, packed_pair};
+ghost use Rattle.mlu_eq.specs.Split.{contents, packed_sum};
 
-use super::constants::{FEW_WEIGHTS, MOST_WEIGHTS, are_constants, dot_of_rows_by_constants};
+use super::constants::{FEW_CONSTANTS, MOST_CONSTANTS, are_constants, dot_of_rows_by_constants};
+use super::elements::{dot_of_rows_by_elements, goes_by_elements};
 use crate::half::{EqMaybePacked, Weights};
 use mlu_kernel::one_row::lane_sum;
 use mlu_kernel::{compress_hi_dot_packed, compress_hi_dot_packed_eager};
@@ -20,8 +21,8 @@ const FEW_ENTRIES: usize = 1024;
 /// The products that are summed before they are reduced.
 const GROUP: usize = 4;
 
-/// The coefficients of an extension whose sums are reduced for four base elements at once.
-const COEFFICIENTS: usize = 4;
+/// How many coefficients an extension has whose sums are reduced for all of them at once.
+pub(super) const COEFFICIENTS: usize = 4;
 
 /// The sum of the base entries, each times its weight. Asks for as many entries as the split
 /// table has.
@@ -108,10 +109,10 @@ fn dot_of_rows<F: Field, EF: ExtensionField<F>>(eq0: &[EF], weights: &[EF], entr
     requires { length entries.now ≡ length eq0.now * length weights.now }
     ensures { result ≡ double_sum EF.ring eq0.now weights.now (map EF.embed entries.now) }
 {
-    if are_constants::<F, EF>(weights.len(), FEW_WEIGHTS) {
-        dot_of_rows_by_constants::<F, EF, FEW_WEIGHTS>(eq0, weights, entries)
-    } else if are_constants::<F, EF>(weights.len(), MOST_WEIGHTS) {
-        dot_of_rows_by_constants::<F, EF, MOST_WEIGHTS>(eq0, weights, entries)
+    if are_constants::<F, EF>(weights.len(), FEW_CONSTANTS) {
+        dot_of_rows_by_constants::<F, EF, FEW_CONSTANTS>(eq0, weights, entries)
+    } else if are_constants::<F, EF>(weights.len(), MOST_CONSTANTS) {
+        dot_of_rows_by_constants::<F, EF, MOST_CONSTANTS>(eq0, weights, entries)
     } else {
         dot_of_rows_by_groups(eq0, weights, entries)
     }
@@ -133,14 +134,30 @@ fn dot_of_rows_by_groups<F: Field, EF: ExtensionField<F>>(
     sum
 }
 
-/// The same of packed rows. Their lanes are added up before the entry of `eq0` multiplies them.
+/// The sum of the packed rows' dots with `weights`, each times its entry of `eq0`.
 fn dot_of_packed_rows<F: Field, EF: ExtensionField<F>>(
     eq0: &[EF],
     weights: &[EF::ExtensionPacking],
     entries: &[EF::ExtensionPacking],
 ) -> EF
     requires { length entries.now ≡ length eq0.now * length weights.now }
-    ensures { result ≡ packed_pair EF.ring EF.ExtensionPacking.ext_lanes eq0.now weights.now entries.now }
+    ensures { result ≡ packed_sum EF.ring EF.ExtensionPacking.ext_lanes eq0.now weights.now entries.now }
+{
+    if goes_by_elements::<F, EF>(weights.len()) {
+        dot_of_rows_by_elements::<F, EF>(eq0, weights, entries)
+    } else {
+        dot_of_rows_by_lanes::<F, EF>(eq0, weights, entries)
+    }
+}
+
+/// [`dot_of_packed_rows`], whose lanes are added up before the entry of `eq0` multiplies them.
+fn dot_of_rows_by_lanes<F: Field, EF: ExtensionField<F>>(
+    eq0: &[EF],
+    weights: &[EF::ExtensionPacking],
+    entries: &[EF::ExtensionPacking],
+) -> EF
+    requires { length entries.now ≡ length eq0.now * length weights.now }
+    ensures { result ≡ packed_sum EF.ring EF.ExtensionPacking.ext_lanes eq0.now weights.now entries.now }
 {
     let mut sum = EF::ZERO;
     for j in 0..eq0.len() {

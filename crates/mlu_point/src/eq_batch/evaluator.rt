@@ -45,7 +45,7 @@ impl<F: Field, EF: ExtensionField<F>> PackedEvaluator<F, EF, EF> for ExtFieldEva
     ghost in_every_lane = { EF.ExtensionPacking.embeds_element };
 }
 
-/// Points with coordinates in its base field.
+/// Points with coordinates in the base field of the scalars.
 impl<F: Field, EF: ExtensionField<F>> PackedEvaluator<F, F, EF> for EmbeddedCoordinates {
     ghost use Rattle.mlu_ring.specs.Lanes.{splat_of};
     ghost use Rattle.mlu_point.specs.Splats.{lanes-of_splat};

@@ -23,7 +23,7 @@ fn split_high<R>(coords: &[R], order: BitOrder, low_variables: usize) -> (&[R], 
     }
 }
 
-/// The scale times each weight, in the order and in one allocation of exactly `2^n` elements. Asks
+/// The scale times each weight, in the order that `order` says and in one allocation of exactly `2^n` elements. Asks
 /// that `2^n` fits `usize`.
 fn scaled_weights<F: Lanewise, M: Meter<F>>(
     alloc: Global,
@@ -62,7 +62,7 @@ fn fill_chunks<F: Lanewise, M: Meter<F>>(
     }
 }
 
-/// Writes the scale times each weight, in the order, a chunk for each weight of the high
+/// Writes the scale times each weight, in the order that `order` says, a chunk for each weight of the high
 /// coordinates. Those weights are the only memory: it does not fail where there is no such
 /// coordinate.
 pub(super) fn fill_in_chunks<F: Lanewise, M: Meter<F>>(
@@ -92,7 +92,7 @@ pub(super) fn fill_in_chunks<F: Lanewise, M: Meter<F>>(
     Ok(())
 }
 
-/// The weights of all vertices, in the order and in one allocation of exactly `2^n` elements, by
+/// The weights of all vertices, in the order that `order` says and in one allocation of exactly `2^n` elements, by
 /// [`fill_in_chunks`]. Asks that `2^n` fits `usize`.
 pub(super) fn weights_by_meter<F: Lanewise, M: Meter<F>>(
     alloc: Global,
@@ -114,7 +114,7 @@ pub(super) fn weights_by_meter<F: Lanewise, M: Meter<F>>(
     Ok(table)
 }
 
-/// The weights of all vertices, in the order, by [`weights_by_meter`] in one chunk. Asks that `2^n`
+/// The weights of all vertices, in the order that `order` says, by [`weights_by_meter`] in one chunk. Asks that `2^n`
 /// fits `usize`.
 pub(super) fn equality_table<F: Field>(
     alloc: Global,

@@ -97,7 +97,7 @@ fn split_entries<F: Lanewise, M: Meter<F>>(
     }
 }
 
-/// Writes the scale times each weight, in the order. Asks for `2^n` places, where the point has `n`
+/// Writes the scale times each weight, in the order that `order` says. Asks for `2^n` places, where the point has `n`
 /// coordinates.
 pub(super) fn fill_by_meter<F: Lanewise, M: Meter<F>>(
     out: &mut [F],

@@ -37,7 +37,7 @@ pub(super) fn split_top<R: Copy>(coords: &[R], order: BitOrder) -> Option<(&R, &
     }
 }
 
-/// Writes the scale times each weight, in the order. Asks for `2^n` places, where the point has `n`
+/// Writes the scale times each weight, in the order that `order` says. Asks for `2^n` places, where the point has `n`
 /// coordinates.
 pub fn fill_equality_table<R: PrimeCharacteristicRing>(
     out: &mut [R],

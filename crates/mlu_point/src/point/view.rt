@@ -149,7 +149,7 @@ impl<F: Lanewise> PointView<'_, F> {
     ghost use Rattle.mlu_point.specs.Orders.{weights_by};
     ghost use Rattle.mlu_point.specs.Views.{coordinates};
 
-    /// Writes the scale times each weight, in the order, by `2^n - 1` products of the meter and
+    /// Writes the scale times each weight, in the order that `order` says, by `2^n - 1` products of the meter and
     /// none else. Asks for `2^n` places, where there are `n` coordinates.
     pub fn fill_equality_table_serial<M: Meter<F>>(
         &self,
@@ -166,7 +166,7 @@ impl<F: Lanewise> PointView<'_, F> {
         fill_by_meter(out, self.coords, order, scale, meter);
     }
 
-    /// Writes the scale times each weight, in the order, in chunks of `2^low_variables` entries.
+    /// Writes the scale times each weight, in the order that `order` says, in chunks of `2^low_variables` entries.
     /// The other coordinates are the high ones, the first for [`BitOrder::Msb`] and the last for
     /// [`BitOrder::Lsb`]: each chunk begins with one of their weights. Takes `2^n - 1` products of
     /// the meter and none else, where there are `n` coordinates.
@@ -196,7 +196,7 @@ impl<F: Lanewise> PointView<'_, F> {
         fill_in_chunks(alloc, out, self.coords, order, scale, low_variables, meter)
     }
 
-    /// The weights of all vertices, in the order, as [`PointView::fill_equality_table_in_chunks`]
+    /// The weights of all vertices, in the order that `order` says, as [`PointView::fill_equality_table_in_chunks`]
     /// makes them: by `2^n - 1` products of the meter and none else. Asks that `2^n` fits `usize`,
     /// where there are `n` coordinates, and that `low_variables <= n`.
     ///
@@ -255,7 +255,7 @@ impl<F: Field> PointView<'_, F> {
     }
 
     /// The weight of a vertex by its index, whose highest bit coordinate 0 reads. `None` exactly
-    /// where the vertex is `2^n` or more, where there are `n` coordinates.
+    /// for a vertex of `2^n` or more, with `n` coordinates.
     pub fn equality_at_vertex(&self, vertex: usize) -> Option<F>
         ensures { IsWeightAt F.ring (coordinates self.now) vertex result }
     {

@@ -39,3 +39,16 @@ fn a_column_and_no_column(rt: HostRuntime) {
     assert_eq!(rt; first.height(), 0);
     assert!(rt; first == rest);
 }
+
+#[test]
+fn matrices_that_differ(rt: HostRuntime) -> Result<(), Fail> {
+    let square = RowMajorMatrix::new(Vec::from_slice(rt.alloc(), &[1u32, 2, 3, 4])?, 2);
+    let column = RowMajorMatrix::new(Vec::from_slice(rt.alloc(), &[1u32, 2, 3, 4])?, 1);
+    let other = RowMajorMatrix::new(Vec::from_slice(rt.alloc(), &[1u32, 2, 3, 5])?, 2);
+    assert!(rt; square == square);
+    assert!(rt; square != column);
+    assert!(rt; square != other);
+    assert!(rt; square.as_view() != column.as_view());
+    assert!(rt; square.as_view() != other.as_view());
+    Ok(())
+}

@@ -17,10 +17,10 @@ use mlu_ring::{ExtensionField, Field, PackedValue};
 use std::alloc::{AllocError, Global};
 
 /// The bytes of a base element up to which the split table serves one variable earlier.
-const SMALL_BYTES: usize = 4;
+const WORD_BYTES: usize = 4;
 
-/// The coefficients of weights that serve base entries better one by one than packed: four base
-/// entries and the coefficients of their weights are a row and a matrix, whose product is reduced once.
+/// How many coefficients weights have where base entries meet them faster unpacked: four entries are a
+/// row and the coefficients of their weights a matrix, whose product is reduced once.
 const COEFFICIENTS: usize = 4;
 
 /// The most variables of a table whose second half has its weights read to the stack, where these have
@@ -33,7 +33,7 @@ const MOST_VARIABLES: usize = 20;
 fn recursion_threshold(bytes: usize) -> usize
     ensures { result ≡ threshold bytes }
 {
-    if bytes <= SMALL_BYTES { 9 } else { 10 }
+    if bytes <= WORD_BYTES { 9 } else { 10 }
 }
 
 /// Whether base entries of so many variables meet scalar weights faster than packed ones.

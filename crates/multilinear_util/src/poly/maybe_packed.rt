@@ -182,10 +182,7 @@ impl<'a, F: Field, EF: ExtensionField<F>> PolyMaybePackedView<'a, F, EF> {
     {
         match self {
             PolyMaybePackedView::Scalar(poly) => out.copy_from_slice(poly.as_slice()),
-            PolyMaybePackedView::Packed(poly) => crate::packing::unpack_into::<F, EF>(
-                poly.as_slice(),
-                out,
-            ),
+            PolyMaybePackedView::Packed(poly) => mlu_eq::unpack_into::<F, EF>(poly.as_slice(), out),
         }
     }
 

@@ -6,6 +6,7 @@ ghost use Rattle.multilinear_util.specs.Views.{entries};
 use super::Poly;
 use super::view::PolyView;
 use crate::packing;
+use mlu_eq::unpack_into;
 use mlu_ring::{ExtensionField, Field, PackedFieldExtension};
 use std::alloc::{AllocError, Global};
 
@@ -50,7 +51,7 @@ impl<A: Copy> PolyView<'_, A> {
         requires { length out.old ≡ length (entries self.now) * F.Packing.WIDTH }
         ensures { out.new ≡ logical A.ext_lanes (entries self.now) }
     {
-        packing::unpack_into::<F, EF>(self.as_slice(), out.as_mut_slice());
+        unpack_into::<F, EF>(self.as_slice(), out.as_mut_slice());
     }
 }
 

@@ -111,7 +111,7 @@ impl<'a, F: Copy> PolyView<'a, F> {
 }
 
 /// The function is the value at a point, by the recursion on the first variable: it takes no
-/// memory.
+/// memory. Its `arity` is the number of variables, by clause `same` of [`PolyView::num_variables`].
 impl<EF: PrimeCharacteristicRing> AffineInEach<EF> for PolyView<'_, EF> {
     ghost use Rattle.mlu_ring.specs.Tables.{value};
     ghost use Rattle.mlu_ring.proofs.Coordinates.{value-affine_in_each};

@@ -44,10 +44,8 @@ impl<F: Field, EF: ExtensionField<F>> SplitEq<F, EF> {
         ensures err { OnErr result (out.new ≡ out.old) }
         ensures packed { IsTrue self.now.eq1.packed → F.Packing.WIDTH * F.Packing.WIDTH ≤ length out.old * F.Packing.WIDTH → IsOk result }
     {
-        if !self.eq1().is_packed() {
-            return self.add_table(alloc, out, scale);
-        }
-        if self.num_variables() / 2 < <F::Packing as PackedValue>::LOG_WIDTH {
+        let has_packings = self.num_variables() / 2 >= <F::Packing as PackedValue>::LOG_WIDTH;
+        if !self.eq1().is_packed() || !has_packings {
             return self.add_table(alloc, out, scale);
         }
         let (eq0, eq1) = self.halves();

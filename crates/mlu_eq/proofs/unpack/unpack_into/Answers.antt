@@ -3,7 +3,7 @@ use Rattle.std.proofs.Math.Seq.{take-append_seam, drop-append_seam}
 use Rattle.std.proofs.lemmas.List.{append_assoc, drop-drop, length-take-le}
 use Rattle.mlu_ring.specs.Lanes.{logical}
 use Rattle.mlu_ring.proofs.Logical.{length-logical, logical-take_more}
-use Rattle.multilinear_util.proofs.packing.unpack_into.Goals as goal
+use Rattle.mlu_eq.proofs.unpack.unpack_into.Goals as goal
 
 -- n places more of a list whose first k were written
 block_written : {V : Type 0} (out done initial w : List V) (k n : ℕ) → out ≡ done ++ drop k initial → length done ≡ k

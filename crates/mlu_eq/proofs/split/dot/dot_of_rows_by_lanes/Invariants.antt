@@ -1,7 +1,7 @@
 use Rattle.std.proofs.Common.{◌≡◌, take}
 use Rattle.mlu_ring.specs.Lanes.{logical}
 use Rattle.mlu_kernel.specs.Kernels.{double_sum}
-use Rattle.mlu_eq.proofs.split.dot.dot_of_packed_rows.Given as goal
+use Rattle.mlu_eq.proofs.split.dot.dot_of_rows_by_lanes.Given as goal
 
 abbrev pub invariant-loop-j : goal.invariant-loop-j
 invariant-loop-j g l =

@@ -6,9 +6,8 @@ use Rattle.mlu_ring.specs.Tables.{pair}
 use Rattle.mlu_ring.proofs.Logical.{length-logical}
 use Rattle.mlu_kernel.specs.Kernels.{double_sum}
 use Rattle.mlu_kernel.proofs.DoubleSums.{double_sum-none, double_sum_step}
-use Rattle.mlu_eq.proofs.Contents.{pair-contents}
 use Rattle.mlu_eq.proofs.Products.{length-block, logical-block, total-pair}
-use Rattle.mlu_eq.proofs.split.dot.dot_of_packed_rows.Goals as goal
+use Rattle.mlu_eq.proofs.split.dot.dot_of_rows_by_lanes.Goals as goal
 
 pub loop-j-init : goal.loop-j-init
 loop-j-init g c =
@@ -47,4 +46,3 @@ returns g c =
     let e = logical lanes c.args.entries.now in
     c.loop-j.invariant
     ∙ ap (λ rows. double_sum g.EF.Additive.ring rows w e) (take_all c.loop-j.j c.args.eq0.now c.loop-j-test.false)
-    ∙ sym (pair-contents g.EF.Additive.ring g.met.EF.Additive.laws c.args.eq0.now w e)

@@ -1,0 +1,74 @@
+//! Sums of packed entries, each times its weight, of the elements in their lanes.
+//!
+//! Weights and rows are written out, to the stack, so that each row is a dot of elements.
+ghost use Rattle.std.specs.Prelude.{◌≡◌, ◌*◌, ◌≤◌, ◌<◌, length, IsTrue};
+ghost use Rattle.std.specs.Mem.{type_size};
+ghost use Rattle.mlu_ring.specs.Lanes.{logical};
+ghost use Rattle.mlu_kernel.specs.Kernels.{double_sum};
+ghost use Rattle.mlu_eq.specs.Split.{HasFewLanes, packed_sum};
+
+use super::dot::COEFFICIENTS;
+use crate::unpack::unpack_into;
+use mlu_kernel::small::{SMALL_BYTES, is_small};
+use mlu_ring::{Additive, ExtensionField, Field, Lanewise, PackedValue, row_of};
+
+/// The fewest elements of a row that are faster than its lanes: a row costs four reductions once, and
+/// each call its places on the stack.
+const FEWEST_ELEMENTS: usize = 128;
+
+/// The most elements of a row that are written to the stack.
+const MOST_ELEMENTS: usize = 1024;
+
+const _: () = prove!(MOST_ELEMENTS * SMALL_BYTES < 2 << 20);
+
+/// Whether dots of elements are ahead of those of lanes, for rows as long as so many packed weights,
+/// with room on the stack.
+#[inline]
+pub(super) fn goes_by_elements<F: Field, EF: ExtensionField<F>>(weights: usize) -> bool
+    ensures { IsTrue result → HasFewLanes F.Packing.WIDTH weights MOST_ELEMENTS EF.row }
+{
+    let width = <F::Packing as PackedValue>::WIDTH;
+    EF::DIMENSION == COEFFICIENTS
+        && weights >= FEWEST_ELEMENTS / width
+        && weights <= MOST_ELEMENTS / width
+        && is_small(&EF::ZERO)
+}
+
+/// The sum of the rows' dots with the lanes of `weights`, each times its entry of `eq0`.
+pub(super) fn dot_of_rows_by_elements<F: Field, EF: ExtensionField<F>>(
+    eq0: &[EF],
+    weights: &[EF::ExtensionPacking],
+    entries: &[EF::ExtensionPacking],
+) -> EF
+    requires few { HasFewLanes F.Packing.WIDTH (length weights.now) MOST_ELEMENTS EF.row }
+    requires size { length entries.now ≡ length eq0.now * length weights.now }
+    ensures { result ≡ packed_sum EF.ring EF.ExtensionPacking.ext_lanes eq0.now weights.now entries.now }
+{
+    let mut places = [EF::ZERO; MOST_ELEMENTS];
+    let elements = &mut places[..weights.len() * <F::Packing as PackedValue>::WIDTH];
+    unpack_into::<F, EF>(weights, elements);
+    dot_of_written_rows::<F, EF>(eq0, elements, weights.len(), entries)
+}
+
+/// The sum of the dots of `weights` with the lanes of rows of `width` packed entries, each times its
+/// entry of `eq0`.
+fn dot_of_written_rows<F: Field, EF: ExtensionField<F>>(
+    eq0: &[EF],
+    weights: &[EF],
+    width: usize,
+    entries: &[EF::ExtensionPacking],
+) -> EF
+    requires few { HasFewLanes F.Packing.WIDTH width MOST_ELEMENTS EF.row }
+    requires long { length weights.now ≡ width * F.Packing.WIDTH }
+    requires size { length entries.now ≡ length eq0.now * width }
+    ensures { result ≡ double_sum EF.ring eq0.now weights.now (logical EF.ExtensionPacking.ext_lanes entries.now) }
+{
+    let mut places = [EF::ZERO; MOST_ELEMENTS];
+    let row = &mut places[..weights.len()];
+    let mut sum = EF::ZERO;
+    for j in 0..eq0.len() {
+        unpack_into::<F, EF>(row_of(entries, eq0.len(), j), row);
+        sum = sum + eq0[j] * EF::dot(weights, row);
+    }
+    sum
+}
