@@ -65,7 +65,10 @@ pub fn table_and_points(
     let firsts = count(first).ok_or(Fault::Number)?;
     let seconds = count(second).ok_or(Fault::Number)?;
     let variables = variables(entries).ok_or(Fault::Length)?;
-    if variables != firsts || variables != seconds {
+    if variables != firsts {
+        return Err(Fault::Arity);
+    }
+    if variables != seconds {
         return Err(Fault::Arity);
     }
     let table = read(alloc, table, entries)?;

@@ -90,7 +90,7 @@ fn in_rounds<E: Copy>(alloc: Global, elements: &[E]) -> Result<Vec<[E; 3]>, Allo
     let mut rounds = Vec::with_capacity(alloc, count)?;
     for i in 0..count {
         let start = i * 3;
-        rounds.push_reserved([elements[start], elements[start + 1], elements[start + 2]]);
+        rounds.push([elements[start], elements[start + 1], elements[start + 2]])?;
     }
     Ok(rounds)
 }
