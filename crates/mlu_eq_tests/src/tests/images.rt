@@ -58,7 +58,7 @@ fn has_images<F: Field, EF: ExtensionField<F>, R: ExtensionField<R> + MapFrom<EF
 ) -> Result<bool, AllocError>
     requires { length eq1.now.weights ≡ length weights.now }
 {
-    let table = half::to_field::<F, EF, R>(eq1, alloc)?;
+    let table = half::to_field::<F, EF, R>(alloc, eq1)?;
     let one = elements::<R>(alloc, &[1])?;
     let mut out = R::zero_vec(alloc, weights.len())?;
     split::accumulate_into(&one, &table, &mut out, R::ONE);
