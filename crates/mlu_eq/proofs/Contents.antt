@@ -62,6 +62,10 @@ module _ {R : Type 0} (ring : Ring R) where
       ∙ ap (λ t. t ⊗ get_or w z 𝟘) (get_or_default eq0 k d 𝟘 h)
       ∙ sym (get_or-take n (drop (k * n) c) z 𝟘 place ∙ get_or-drop (k * n) c z 𝟘 ∙ get_or-contents_row eq0 w k z h place))))
 
+  -- no first half, no rows
+  pub contents-none : (w : List R) → contents ring [] w ≡ []
+  contents-none w = contents-rows [] w
+
   -- one more entry of the first half
   pub contents-take_more : (eq0 w : List R) (j : ℕ) (x : R) → j < length eq0 → x ≡ get_or eq0 j x → contents ring (take (j + 1) eq0) w ≡ contents ring (take j eq0) w ++ map (ring.product x) w
   contents-take_more eq0 w j x h at_x =

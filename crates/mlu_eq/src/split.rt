@@ -1,8 +1,8 @@
 //! A table in two halves: `eq0`, a slice, and `eq1`, scalar or packed weights.
 //!
-//! Entry `x` of the table is `eq0[x / n] * w[x % n]`, where `w` are the `n` weights of `eq1`. None of the
-//! kernels takes memory: only the suffix compressions write the whole table, on the stack, where it
-//! has at most 128 packed entries.
+//! Entry `x` of the table is `eq0[x / n] * w[x % n]`, where `w` are the `n` weights of `eq1`. Only
+//! [`append_entries`] takes memory; the suffix compressions write the whole table to the stack, where it has
+//! at most 128 packed entries.
 
 pub(crate) mod accumulate;
 mod constants;
@@ -12,9 +12,11 @@ mod prefix;
 pub mod runs;
 mod shifted;
 mod suffix;
+mod whole;
 
 pub use accumulate::{accumulate_into, accumulate_into_packed};
 pub use dot::{dot_base, dot_ext, dot_packed};
 pub use prefix::{compress_prefix_into, compress_prefix_to_packed_into};
 pub use shifted::{compress_prefix_shifted_into, dot_base_shifted};
 pub use suffix::{compress_suffix_into, compress_suffix_shifted_into};
+pub use whole::append_entries;

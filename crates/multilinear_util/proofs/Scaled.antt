@@ -1,14 +1,12 @@
 -- Sums of products whose factors are scaled, and the value of a table as such a sum.
-use Rattle.std.proofs.Common.{◌≡◌, ℕ, ◌+◌, ◌*◌, ◌/◌, ◌^◌, List, ◌++◌, map, length, replicate, get_or, refl, sym, ap, ◌∙◌}
+use Rattle.std.proofs.Common.{◌≡◌, ℕ, ◌+◌, ◌*◌, ◌/◌, ◌^◌, List, ◌++◌, map, length, get_or, refl, sym, ap, ◌∙◌}
 use Rattle.std.proofs.lemmas.List.{length-map}
 use Rattle.std.proofs.Math.ListN.{get_or-map}
 use Rattle.std.specs.List.{range_with_len}
-use Rattle.std.specs.Simd.Lanes.{zip2}
-use Rattle.mlu_eq.proofs.Zipped.{zip_zeros}
 use Rattle.mlu_ring.specs.Ring.{Ring, RingLaws}
 use Rattle.mlu_ring.specs.Sums.{sum_below}
 use Rattle.mlu_ring.specs.Tables.{pair, front, back, value, weight, weights}
-use Rattle.mlu_ring.proofs.Rings.{map-one, product_zero}
+use Rattle.mlu_ring.proofs.Rings.{product_zero}
 use Rattle.mlu_ring.proofs.SumsBelow.{map_from, sum_below-same, sum_below-product}
 use Rattle.mlu_ring.proofs.Doubling.{map_twice}
 use Rattle.mlu_ring.proofs.Joined.{length-weights, get_or-weights, value-joined_prefix, value-joined_suffix}
@@ -65,8 +63,3 @@ module _ {R : Type 0} (ring : Ring R) (laws : RingLaws ring) where
   pub value-compressed_suffix : (c : R) (e a b folded : List R) → folded ≡ map (ring.product c) (back ring (weights ring b) e) → length e ≡ 2 ^ (length a + length b) → value ring folded a ≡ c ⊗ value ring e (a ++ b)
   value-compressed_suffix c e a b folded is size =
       ap (λ t. value ring t a) is ∙ value-scaled ring laws c (back ring (weights ring b) e) a ∙ ap (λ t. c ⊗ t) (value-joined_suffix ring laws e a b size)
-
--- zeros, with as many values times one added, are those
-pub unit_over_zeros : {R : Type 0} (ring : Ring R) (n : ℕ) (values : List R) → length values ≡ n → RingLaws ring → zip2 ring.sum (replicate n ring.zero) (map (ring.product ring.one) values) ≡ values
-unit_over_zeros ring n values size laws =
-    zip_zeros ring laws n (map (ring.product ring.one) values) (length-map values (ring.product ring.one) ∙ size) ∙ map-one ring laws ring.one values refl

@@ -13,7 +13,7 @@ use mlu_ring::{
 };
 
 /// The most lanes that are stored as elements on the stack.
-const MOST_LANES: usize = 16;
+pub(super) const MOST_LANES: usize = 16;
 
 /// Adds each entry of the split table, times `scale`, to its place of `out`. Asks for as many
 /// places as the split table has entries.
@@ -134,7 +134,7 @@ pub(crate) fn add_lanes<F: Field, EF: ExtensionField<F>>(
 /// Whether lanes are stored as elements on the stack before they are added. A constant, once the types
 /// are known.
 #[inline]
-fn takes_elements<F: Field, EF: ExtensionField<F>>() -> bool
+pub(super) fn takes_elements<F: Field, EF: ExtensionField<F>>() -> bool
     ensures { IsTrue result → (F.Packing.WIDTH ≤ MOST_LANES) × (type_size EF.row < SMALL_BYTES) }
 {
     F::Packing::WIDTH <= MOST_LANES && is_small(&EF::ZERO)

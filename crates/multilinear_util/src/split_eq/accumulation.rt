@@ -5,7 +5,7 @@ ghost use Rattle.mlu_ring.specs.Sums.{plus_scaled};
 ghost use Rattle.mlu_ring.specs.Lanes.{logical};
 
 use super::SplitEq;
-use crate::poly::Poly;
+use crate::poly::{Poly, table_length};
 use mlu_eq::split;
 use mlu_ring::{
     Additive, ExtensionField, Field, Lanewise, PackedFieldExtension, PackedValue, row_of,
@@ -77,14 +77,15 @@ impl<F: Field, EF: ExtensionField<F>> SplitEq<F, EF> {
     ///
     /// # Errors
     /// Where the memory for the table is refused.
-    #[tactic(auto, using(crate::proofs::Scaled::unit_over_zeros, std::proofs::lemmas::Grind::common_steps))]
+    #[tactic(auto, using(crate::proofs::Lengths::power_of_size))]
     pub fn materialize(&self, alloc: Global) -> Result<Poly<EF>, AllocError>
         requires { length (split_entries EF.ring self.now) < 2 ^ 64 }
         ensures { IfOk result (λ poly. poly ≡ split_entries EF.ring self.now) }
     {
-        let mut table = Poly::zero(alloc, self.num_variables())?;
-        self.accumulate_into(table.as_mut_slice(), None);
-        Ok(table)
+        let mut entries = Vec::with_capacity(alloc, table_length(self.num_variables()))?;
+        let (eq0, eq1) = self.halves();
+        split::append_entries(&mut entries, eq0, eq1)?;
+        Ok(Poly::new(entries))
     }
 }
 

@@ -1,0 +1,6 @@
+use Rattle.std.proofs.Common.{◌≡◌, ◌++◌, map, take}
+use Rattle.mlu_eq.proofs.split.whole.push_row.Given as goal
+
+abbrev pub invariant-loop-weight : goal.invariant-loop-weight
+invariant-loop-weight g l =
+    l.table.items ≡ l.initial.table.items ++ map (g.R.Additive.ring.product l.factor) (take l.weight-index l.weights)
