@@ -22,18 +22,6 @@ unsafe extern "C" {
         call: u32,
         rounds: usize,
     ) -> bool;
-    fn mlu_bench_rounds(
-        out: *mut u32,
-        out_len: usize,
-        entries: *const u32,
-        entries_len: usize,
-        point: *const u32,
-        point_len: usize,
-        challenges: *const u32,
-        challenges_len: usize,
-        call: u32,
-        rounds: usize,
-    ) -> bool;
 }
 
 /// The answer of so many calls.
@@ -41,7 +29,7 @@ pub type Repeated<'a> = Box<dyn Fn(usize) -> Ext + 'a>;
 
 /// What calls of `mlu_bench` are made on, in words: a table and a point over the extension, of which the
 /// first words are those over the base; and for batches the coordinates of points in columns, with a
-/// scalar for each. The first scalar scales the other calls.
+/// scalar for each. The first scalar scales the other calls, and the columns are the challenges of sumcheck.
 pub struct Operands {
     pub entries: Vec<u32>,
     pub point: Vec<u32>,
@@ -70,19 +58,4 @@ impl Operands {
             out
         })
     }
-}
-
-/// The call of sumcheck with this number, on a table, weights at a point, and challenges.
-pub fn rounds<'a>(entries: &'a [u32], point: &'a [u32], challenges: &'a [u32], call: u32) -> Repeated<'a> {
-    Box::new(move |rounds| {
-        let mut out = ZERO;
-        let served = unsafe {
-            mlu_bench_rounds(
-                out.as_mut_ptr(), out.len(), entries.as_ptr(), entries.len(), point.as_ptr(), point.len(),
-                challenges.as_ptr(), challenges.len(), call, rounds,
-            )
-        };
-        assert!(served);
-        out
-    })
 }

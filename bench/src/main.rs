@@ -187,18 +187,26 @@ fn batches(variables: usize, points: usize) {
     row(&format!("`eval_eq_batch`, points: {points}"), variables, [rust, library]);
 }
 
+/// The whole proof of sumcheck, by kind and number.
+const PROOF: (u32, u32) = (14, 0);
+
+/// The kind of the parts of sumcheck.
+const ROUNDS: u32 = 15;
+
 fn sumcheck(variables: usize) {
-    let entries = words(4 << variables, 6);
-    let point = words(4 * variables, 7);
-    let challenges = words(4 * variables, 8);
-    let library = |number| library::rounds(&entries, &point, &challenges, number);
-    let (poly, z, values) = (extensions(&entries), extensions(&point), extensions(&challenges));
+    let operands = Operands {
+        entries: words(4 << variables, 6),
+        point: words(4 * variables, 7),
+        columns: words(4 * variables, 8),
+        scalars: ONE.to_vec(),
+    };
+    let (poly, z, values) = (extensions(&operands.entries), extensions(&operands.point), extensions(&operands.columns));
     let halves = z.split_at(z.len() / 2);
     let (left, right) = (plain::table(halves.0, ONE), plain::table(halves.1, ONE));
     let whole = || plain::sumcheck(&poly, &left, &right, &values).1.into_iter().fold(ZERO, add);
-    row("sumcheck run", variables, [repeated(whole), library(0)]);
+    row("sumcheck run", variables, [repeated(whole), operands.repeated(PROOF)]);
     let weights = plain::table(&z, ONE);
-    one_round(variables, &poly, &weights, values[0], library);
+    one_round(variables, &poly, &weights, values[0], |number| operands.repeated((ROUNDS, number)));
 }
 
 /// A round and its fold, with its claim known and without, beside the fold alone and one pass over both

@@ -1,4 +1,6 @@
 //! Batches of equality tables.
+ghost use Rattle.std.specs.Prelude.{◌≡◌, ◌<◌, ◌/◌, ◌^◌, IsTrue};
+ghost use Rattle.mlu_ring.specs.Matrices.{AreRows};
 
 use crate::calls::Calls;
 use crate::case::{Case, first};
@@ -9,61 +11,32 @@ use std::alloc::{AllocError, Global};
 /// The sum of the tables of all points, each times its scalar, at points of the extension (0) or of the
 /// base (1).
 #[derive(Drop)]
-pub struct BatchCalls<'a, F: Field, EF: ExtensionField<F>> {
+pub struct BatchCalls<'a, F, EF> {
     case: &'a Case<F, EF>,
-    variables: usize,
     out: Vec<EF>,
 }
 
-impl<'a, F: Field, EF: ExtensionField<F>> BatchCalls<'a, F, EF> {
+impl<'a, F, EF: PrimeCharacteristicRing> BatchCalls<'a, F, EF> {
     /// The calls, into a table that is made once.
     pub fn new(alloc: Global, case: &'a Case<F, EF>) -> Result<Self, AllocError> {
-        Ok(BatchCalls {
-            case,
-            variables: case.ext.num_variables(),
-            out: EF::zero_vec(alloc, case.ext.num_evals())?,
-        })
+        let out = EF::zero_vec(alloc, case.ext.num_evals())?;
+        Ok(BatchCalls { case, out })
     }
 }
 
-/// Writes the sum of the tables of the points in the columns of `rows`, each times its scalar.
-fn batch<F: Field, EF: ExtensionField<F>>(
-    alloc: Global,
-    rows: &[EF],
-    scalars: &[EF],
-    variables: usize,
-    out: &mut [EF],
-) -> Result<(), AllocError> {
-    let points = scalars.len();
-    if points == 0
-        || variables >= 32
-        || out.len() != 1 << variables
-        || variables.checked_mul(points) != Some(rows.len())
-    {
-        return Err(AllocError);
+/// Whether so many values are the coordinates of so many points, and so many entries their table.
+fn is_batch(values: usize, points: usize, entries: usize) -> bool
+    ensures rows { IsTrue result → AreRows values points }
+    ensures table { IsTrue result → 0 < points → entries ≡ 2 ^ (values / points) }
+{
+    if points == 0 || values % points != 0 {
+        return false;
     }
-    let evals = RowMajorMatrixView::new(rows, points);
-    eval_eq_batch::<F, EF, false>(alloc, evals, out, scalars)
-}
-
-/// As [`batch`], at points of the base.
-fn base_batch<F: Field, EF: ExtensionField<F>>(
-    alloc: Global,
-    rows: &[F],
-    scalars: &[EF],
-    variables: usize,
-    out: &mut [EF],
-) -> Result<(), AllocError> {
-    let points = scalars.len();
-    if points == 0
-        || variables >= 32
-        || out.len() != 1 << variables
-        || variables.checked_mul(points) != Some(rows.len())
-    {
-        return Err(AllocError);
+    let variables = values / points;
+    if variables >= 32 {
+        return false;
     }
-    let evals = RowMajorMatrixView::new(rows, points);
-    eval_eq_base_batch::<F, EF, false>(alloc, evals, out, scalars)
+    entries == 1 << variables
 }
 
 impl<F: Field, EF: ExtensionField<F>> Calls for BatchCalls<'_, F, EF> {
@@ -72,16 +45,18 @@ impl<F: Field, EF: ExtensionField<F>> Calls for BatchCalls<'_, F, EF> {
     fn answer(&mut self, alloc: Global, call: u32) -> Result<EF, AllocError> {
         let (case, out) = (self.case, self.out.as_mut_slice());
         let scalars = case.scalars.as_slice();
+        let (points, entries) = (scalars.len(), out.len());
+        if !is_batch(case.columns.len(), points, entries)
+            || !is_batch(case.base_columns.len(), points, entries)
+        {
+            return Err(AllocError);
+        }
         if call == 0 {
-            batch::<F, EF>(alloc, case.columns.as_slice(), scalars, self.variables, out)?;
+            let values = RowMajorMatrixView::new(case.columns.as_slice(), points);
+            eval_eq_batch::<F, EF, false>(alloc, values, out, scalars)?;
         } else {
-            base_batch(
-                alloc,
-                case.base_columns.as_slice(),
-                scalars,
-                self.variables,
-                out,
-            )?;
+            let values = RowMajorMatrixView::new(case.base_columns.as_slice(), points);
+            eval_eq_base_batch::<F, EF, false>(alloc, values, out, scalars)?;
         }
         Ok(first(self.out.as_slice()))
     }

@@ -12,13 +12,14 @@ pub trait Calls {
     fn answer(&mut self, alloc: Global, call: u32) -> Result<Self::Entry, AllocError>;
 }
 
-/// The sum of the answers of so many calls with this number.
+/// The sum of the answers of so many calls with this number, where they could be made.
 pub fn sum_of_calls<C: Calls + Drop>(
     alloc: Global,
-    mut calls: C,
+    calls: Result<C, AllocError>,
     call: u32,
     rounds: usize,
 ) -> Result<C::Entry, AllocError> {
+    let mut calls = calls?;
     let mut sum = C::Entry::ZERO;
     for _ in 0..rounds {
         sum = sum + calls.answer(alloc, call)?;

@@ -1,14 +1,16 @@
-//! What calls are made on, and entries of what they give.
+//! What calls are made on, tests of their sizes, and entries of what they give.
+ghost use Rattle.std.specs.Prelude.{◌≡◌, ◌-◌, ◌*◌, ◌/◌, ◌^◌, ◌<◌, ◌≤◌, length, IsTrue};
 
 use mlu_ring::{Additive, ExtensionField, Field, PackedFieldExtension};
 use multilinear_util::point::Point;
 use multilinear_util::poly::Poly;
+use std::alloc::AllocError;
 
 /// A table and a point over the base field, a table and a point over the extension, with as many
 /// variables each, and a scale; and for batches the coordinates of several points, in columns, with a
 /// scalar for each point.
 #[derive(Drop)]
-pub struct Case<F: Field, EF: ExtensionField<F>> {
+pub struct Case<F, EF> {
     pub base: Poly<F>,
     pub ext: Poly<EF>,
     pub base_point: Point<F>,
@@ -28,10 +30,63 @@ pub fn first<R: Additive>(values: &[R]) -> R {
     }
 }
 
+/// The first value of a table.
+pub fn first_of<R: Additive>(table: Result<Poly<R>, AllocError>) -> Result<R, AllocError> {
+    Ok(first(table?.as_slice()))
+}
+
 /// The first lane of the packed values.
 pub fn first_lane<F: Field, EF: ExtensionField<F>>(packed: &[EF::ExtensionPacking]) -> EF {
     match EF::ExtensionPacking::to_ext_iter(packed).next() {
         Some(value) => value,
         None => EF::ZERO,
     }
+}
+
+/// The first lane of a packed table.
+pub fn first_lane_of<F: Field, EF: ExtensionField<F>>(
+    table: Result<Poly<EF::ExtensionPacking>, AllocError>,
+) -> Result<EF, AllocError> {
+    Ok(first_lane::<F, EF>(table?.as_slice()))
+}
+
+/// Whether the tables of the coordinates and of their second half fit the address space.
+#[tactic(auto, using(crate::proofs::Sizes::fits, crate::proofs::Sizes::below_fits))]
+pub fn is_small<R>(point: &[R]) -> bool
+    ensures whole { IsTrue result → 2 ^ length point.now < 2 ^ 64 }
+    ensures half { IsTrue result → 2 ^ (length point.now - length point.now / 2) < 2 ^ 64 }
+{
+    point.len() < 32
+}
+
+/// Whether the table has at least an entry for each weight of the point.
+pub fn is_within<F: Copy, EF: Copy>(point: &Point<EF>, table: &Poly<F>) -> bool
+    ensures { IsTrue result → 2 ^ length point.now ≤ length table.now }
+{
+    let variables = point.num_variables();
+    if variables >= 32 {
+        return false;
+    }
+    1 << variables <= table.num_evals()
+}
+
+/// Whether it has so many where each weight counts for each of the lanes.
+pub fn is_within_lanes<F: Copy, EF: Copy>(point: &Point<EF>, lanes: usize, table: &Poly<F>) -> bool
+    ensures { IsTrue result → 2 ^ length point.now * lanes ≤ length table.now }
+{
+    let variables = point.num_variables();
+    if variables >= 32 {
+        return false;
+    }
+    match (1_usize << variables).checked_mul(lanes) {
+        Some(places) => places <= table.num_evals(),
+        None => false,
+    }
+}
+
+/// Whether the table has an entry for each weight of the point.
+pub fn fits<F: Copy, EF: Copy>(point: &Point<EF>, table: &Poly<F>) -> bool
+    ensures { IsTrue result → length table.now ≡ 2 ^ length point.now }
+{
+    table.num_variables() == point.num_variables()
 }

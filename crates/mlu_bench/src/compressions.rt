@@ -1,10 +1,14 @@
 //! Compressions of a table over the base at half of a point.
-ghost use Rattle.std.specs.Prelude.{◌*◌, ◌^◌, ◌≤◌, IsTrue};
+ghost use Rattle.std.specs.Prelude.{◌≤◌, length, IsTrue};
+ghost use Rattle.multilinear_util.specs.Split.{split_entries};
+ghost use Rattle.multilinear_util.specs.Views.{entries};
 
 use crate::calls::Calls;
-use crate::case::{Case, first, first_lane};
+use crate::case::{Case, first_lane_of, first_of, is_within, is_within_lanes};
+use crate::splits::split_table;
 use mlu_ring::{ExtensionField, Field, PackedValue};
 use multilinear_util::point::Point;
+use multilinear_util::poly::{Poly, PolyView};
 use multilinear_util::split_eq::SplitEq;
 use std::alloc::{AllocError, Global};
 
@@ -12,50 +16,90 @@ use std::alloc::{AllocError, Global};
 /// up by one row (3); the last ones at the others (2), or so moved (4).
 #[derive(Drop)]
 pub struct CompressionCalls<'a, F: Field, EF: ExtensionField<F>> {
-    case: &'a Case<F, EF>,
-    low: Point<EF>,
-    high: Point<EF>,
-    low_split: SplitEq<F, EF>,
-    high_split: SplitEq<F, EF>,
+    table: &'a Poly<F>,
+    scale: EF,
+    part: Point<EF>,
+    split: SplitEq<F, EF>,
 }
 
 impl<'a, F: Field, EF: ExtensionField<F>> CompressionCalls<'a, F, EF> {
-    /// The calls, over split tables that are made once.
-    pub fn new(alloc: Global, case: &'a Case<F, EF>) -> Result<Self, AllocError> {
-        let half = case.point.num_variables() / 2;
-        let (low, high) = case.point.split_at(alloc, half)?;
-        if low.num_variables() >= 32 || high.num_variables() >= 32 {
-            return Err(AllocError);
-        }
-        let low_split = SplitEq::new_packed(alloc, &low, case.scale)?;
-        let high_split = SplitEq::new_packed(alloc, &high, case.scale)?;
+    /// The calls with this number, over a split table that is made once.
+    pub fn new(alloc: Global, case: &'a Case<F, EF>, call: u32) -> Result<Self, AllocError> {
+        let part = half_of(alloc, &case.point, call == 2 || call == 4)?;
+        let split = split_table(alloc, &part, case.scale)?;
         Ok(CompressionCalls {
-            case,
-            low,
-            high,
-            low_split,
-            high_split,
+            table: &case.base,
+            scale: case.scale,
+            part,
+            split,
         })
     }
 }
 
-/// Whether the table of so many variables has at most so many entries.
-fn is_within(variables: usize, entries: usize) -> bool
-    ensures { IsTrue result → 2 ^ variables ≤ entries }
-{
-    variables < 32 && 1 << variables <= entries
+/// The second or the first half of the coordinates.
+fn half_of<R: Copy>(alloc: Global, point: &Point<R>, second: bool) -> Result<Point<R>, AllocError> {
+    let (low, high) = point.as_slice().split_at(point.num_variables() / 2);
+    let half = if second { high } else { low };
+    Ok(Point::new(half.to_vec(alloc)?))
 }
 
-/// Whether it has so many where each of its entries counts for each of the lanes.
-fn is_within_lanes(variables: usize, lanes: usize, entries: usize) -> bool
-    ensures { IsTrue result → 2 ^ variables * lanes ≤ entries }
+/// The table with its first (0) or its last (2) variables at the point.
+fn at_point<F: Field, EF: ExtensionField<F>>(
+    alloc: Global,
+    table: &Poly<F>,
+    point: &Point<EF>,
+    scale: EF,
+    call: u32,
+) -> Result<Poly<EF>, AllocError> {
+    if !is_within(point, table) {
+        return Err(AllocError);
+    }
+    match call {
+        0 => table.compress_prefix(alloc, point, scale),
+        _ => table.compress_suffix(alloc, point, scale),
+    }
+}
+
+/// The packed table with its first variables at the point.
+fn packed_at_point<F: Field, EF: ExtensionField<F>>(
+    alloc: Global,
+    table: &Poly<F>,
+    point: &Point<EF>,
+    scale: EF,
+) -> Result<Poly<EF::ExtensionPacking>, AllocError> {
+    if !is_within_lanes(point, <F::Packing as PackedValue>::WIDTH, table) {
+        return Err(AllocError);
+    }
+    table.compress_prefix_to_packed(alloc, point, scale)
+}
+
+/// Whether the table has at least an entry for each of the split table.
+fn is_split_within<F: Field, EF: ExtensionField<F>>(
+    split: &SplitEq<F, EF>,
+    table: PolyView<'_, F>,
+) -> bool
+    ensures { IsTrue result → length (split_entries EF.ring split.now) ≤ length (entries table.entry) }
 {
+    let variables = split.num_variables();
     if variables >= 32 {
         return false;
     }
-    match (1_usize << variables).checked_mul(lanes) {
-        Some(places) => places <= entries,
-        None => false,
+    1 << variables <= table.num_evals()
+}
+
+/// The table with its first (3) or its last (4) variables by the split table, moved.
+fn shifted<F: Field, EF: ExtensionField<F>>(
+    alloc: Global,
+    table: PolyView<'_, F>,
+    split: &SplitEq<F, EF>,
+    call: u32,
+) -> Result<Poly<EF>, AllocError> {
+    if !is_split_within(split, table) {
+        return Err(AllocError);
+    }
+    match call {
+        3 => split.compress_prefix_shifted(alloc, table),
+        _ => split.compress_suffix_shifted(alloc, table),
     }
 }
 
@@ -63,31 +107,10 @@ impl<F: Field, EF: ExtensionField<F>> Calls for CompressionCalls<'_, F, EF> {
     type Entry = EF;
 
     fn answer(&mut self, alloc: Global, call: u32) -> Result<EF, AllocError> {
-        let (base, scale) = (&self.case.base, self.case.scale);
-        let entries = base.num_evals();
-        let width = <F::Packing as PackedValue>::WIDTH;
-        if !is_within(self.low.num_variables(), entries)
-            || !is_within_lanes(self.low.num_variables(), width, entries)
-            || !is_within(self.high.num_variables(), entries)
-            || !is_within(self.low_split.num_variables(), entries)
-            || !is_within(self.high_split.num_variables(), entries)
-        {
-            return Err(AllocError);
+        match call {
+            0 | 2 => first_of(at_point(alloc, self.table, &self.part, self.scale, call)),
+            1 => first_lane_of::<F, EF>(packed_at_point(alloc, self.table, &self.part, self.scale)),
+            _ => first_of(shifted(alloc, self.table.as_view(), &self.split, call)),
         }
-        if call == 1 {
-            let table = base.compress_prefix_to_packed(alloc, &self.low, scale)?;
-            return Ok(first_lane::<F, EF>(table.as_slice()));
-        }
-        let table = match call {
-            0 => base.compress_prefix(alloc, &self.low, scale)?,
-            2 => base.compress_suffix(alloc, &self.high, scale)?,
-            3 => self
-                .low_split
-                .compress_prefix_shifted(alloc, base.as_view())?,
-            _ => self
-                .high_split
-                .compress_suffix_shifted(alloc, base.as_view())?,
-        };
-        Ok(first(table.as_slice()))
     }
 }

@@ -1,7 +1,7 @@
 //! Folds of a table to a new one.
 
 use crate::calls::Calls;
-use crate::case::first;
+use crate::case::first_of;
 use mlu_ring::{Additive, Algebra};
 use multilinear_util::poly::Poly;
 use std::alloc::{AllocError, Global};
@@ -20,10 +20,9 @@ impl<F: Additive, EF: Algebra<F>> Calls for FoldCalls<'_, F, EF> {
         if self.table.num_evals() < 2 {
             return Err(AllocError);
         }
-        let folded = match call {
-            0 => self.table.fix_prefix_var(alloc, self.r)?,
-            _ => self.table.fix_suffix_var(alloc, self.r)?,
-        };
-        Ok(first(folded.as_slice()))
+        first_of(match call {
+            0 => self.table.fix_prefix_var(alloc, self.r),
+            _ => self.table.fix_suffix_var(alloc, self.r),
+        })
     }
 }

@@ -4,7 +4,6 @@ use crate::case::first;
 use mlu_ring::{Additive, Algebra};
 use multilinear_util::poly::Poly;
 use std::alloc::{AllocError, Global};
-use std::mem::replace;
 
 /// Folds the first variable at each of the challenges in turn, as long as there is one.
 pub fn fold_in_turn<F: Algebra<R>, R: Additive>(table: &mut Poly<F>, challenges: &[R]) {
@@ -51,6 +50,19 @@ fn sum_of_folds<F: Algebra<R>, R: Additive>(
     Ok(sum)
 }
 
+/// So many copies of the table.
+fn copies<F: Copy>(
+    alloc: Global,
+    table: &Poly<F>,
+    count: usize,
+) -> Result<Vec<Poly<F>>, AllocError> {
+    let mut copies = Vec::new(alloc);
+    for _ in 0..count {
+        copies.push(table.try_clone(alloc)?)?;
+    }
+    Ok(copies)
+}
+
 /// The sum of what so many calls give, each on a copy of the table. A run of copies, of 2^14 elements or
 /// of one copy, is made before its folds, as in the Rust crate's benchmark, and kept until then, so that
 /// copies alone (4) are made too.
@@ -61,15 +73,14 @@ pub fn sum_on_copies<F: Algebra<R>, R: Additive>(
     call: u32,
     rounds: usize,
 ) -> Result<F, AllocError> {
-    let run = 1_usize << 14_usize.saturating_sub(challenges.len());
+    let log_run = 14_usize.saturating_sub(challenges.len());
+    let runs = rounds >> log_run;
     let mut sum = F::ZERO;
-    let mut copies = Vec::new(alloc);
-    for _ in 0..rounds {
-        if copies.len() >= run {
-            let made = replace(&mut copies, Vec::new(alloc));
-            sum = sum + sum_of_folds(made, challenges, r, call)?;
-        }
-        copies.push(table.try_clone(alloc)?)?;
+    for _ in 0..runs {
+        let made = copies(alloc, table, 1 << log_run)?;
+        sum = sum + sum_of_folds(made, challenges, r, call)?;
     }
-    Ok(sum + sum_of_folds(copies, challenges, r, call)?)
+    let left = rounds.saturating_sub(runs << log_run);
+    let made = copies(alloc, table, left)?;
+    Ok(sum + sum_of_folds(made, challenges, r, call)?)
 }

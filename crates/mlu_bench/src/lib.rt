@@ -2,6 +2,9 @@
 //!
 //! Each makes elements of the words and repeats one operation on them, place by place, or one call
 //! on tables and points of the base and of the extension of degree four.
+//!
+//! The functions of this file alone name the rings, and each as few of their traits as it can: all that these
+//! stand on is proved anew at each such name.
 #![tactic(auto)]
 
 mod batches;
@@ -20,11 +23,10 @@ mod values;
 
 use crate::case::Case;
 use crate::kinds::sum_of_kind;
-use crate::rounds::{repeat_rounds, tables_of};
 use mlu_ext::QuarticExtension;
 use mlu_lanes::{BabyBear, Lanes};
 use mlu_ring::place_by_place::{multiply_each, sub_each};
-use mlu_ring::{Additive, PackedValue, PrimeCharacteristicRing};
+use mlu_ring::{PackedValue, PrimeCharacteristicRing};
 use multilinear_util::point::Point;
 use multilinear_util::poly::Poly;
 use std::alloc::{AllocError, Global};
@@ -60,12 +62,21 @@ fn elements(alloc: Global, words: &[u32]) -> Result<Vec<Element>, AllocError> {
 }
 
 fn packings(alloc: Global, elements: &[Element]) -> Result<Vec<Packing>, AllocError> {
-    let groups = elements.len() / WIDTH;
-    let mut packings = Packing::zero_vec(alloc, groups)?;
-    for i in 0..packings.len().min(groups) {
-        packings[i] = Packing::load(&elements[i * WIDTH..i * WIDTH + WIDTH]);
+    let mut packings = Vec::new(alloc);
+    for i in 0..elements.len() / WIDTH {
+        packings.push(Packing::load(&elements[i * WIDTH..i * WIDTH + WIDTH]))?;
     }
     Ok(packings)
+}
+
+fn extensions(alloc: Global, words: &[u32]) -> Result<Vec<Extension>, AllocError> {
+    let mut extensions = Vec::new(alloc);
+    for i in 0..words.len() / 4 {
+        let at = &words[i * 4..i * 4 + 4];
+        let [c0, c1, c2, c3] = [at[0], at[1], at[2], at[3]].map(BabyBear::from_u32);
+        extensions.push(QuarticExtension::new(c0, c1, c2, c3))?;
+    }
+    Ok(extensions)
 }
 
 fn repeat_scalar(
@@ -126,29 +137,6 @@ pub extern "C" fn mlu_bench_lanes(
     repeat_lanes(alloc, out, b, operation, rounds).is_ok()
 }
 
-fn extensions(alloc: Global, words: &[u32]) -> Result<Vec<Extension>, AllocError> {
-    let count = words.len() / 4;
-    let mut extensions = Extension::zero_vec(alloc, count)?;
-    for i in 0..extensions.len().min(count) {
-        let at = &words[i * 4..i * 4 + 4];
-        let [c0, c1, c2, c3] = [at[0], at[1], at[2], at[3]].map(BabyBear::from_u32);
-        extensions[i] = QuarticExtension::new(c0, c1, c2, c3);
-    }
-    Ok(extensions)
-}
-
-/// Writes the coefficients, and says whether there were any.
-fn write(out: &mut [u32], answer: Result<Extension, AllocError>) -> bool {
-    let Ok(sum) = answer else {
-        return false;
-    };
-    let coefficients = [sum.c0, sum.c1, sum.c2, sum.c3];
-    for (word, coefficient) in out.iter_mut().zip(coefficients.iter()) {
-        *word = coefficient.as_canonical_u32();
-    }
-    true
-}
-
 /// The tables and the points that the words stand for: four words a coefficient of the extension, and
 /// of those of `entries`, `point` and `columns` the first quarter over the base.
 fn case_of(
@@ -181,6 +169,18 @@ fn case_of(
     })
 }
 
+/// Writes the coefficients, and says whether there were any.
+fn write(out: &mut [u32], answer: Result<Extension, AllocError>) -> bool {
+    let Ok(sum) = answer else {
+        return false;
+    };
+    let coefficients = [sum.c0, sum.c1, sum.c2, sum.c3];
+    for (word, coefficient) in out.iter_mut().zip(coefficients.iter()) {
+        *word = coefficient.as_canonical_u32();
+    }
+    true
+}
+
 /// Repeats the call with this number of this kind on what is made of the words before, and writes the
 /// sum of an entry of what each call gives. Gives false where memory is refused or the sizes differ.
 #[unsafe(no_mangle)]
@@ -199,29 +199,4 @@ pub extern "C" fn mlu_bench_call(
         return false;
     };
     write(out, sum_of_kind(alloc, case, kind, call, rounds))
-}
-
-/// Repeats the call of sumcheck with this number, on a table, the weights of a point and
-/// challenges. Gives false where memory is refused or the sizes differ.
-#[unsafe(no_mangle)]
-pub extern "C" fn mlu_bench_rounds(
-    alloc: Global,
-    out: &mut [u32],
-    entries: &[u32],
-    point: &[u32],
-    challenges: &[u32],
-    call: u32,
-    rounds: usize,
-) -> bool {
-    let (Ok(entries), Ok(point), Ok(challenges)) = (
-        extensions(alloc, entries),
-        extensions(alloc, point),
-        extensions(alloc, challenges),
-    ) else {
-        return false;
-    };
-    let Ok(tables) = tables_of::<Element, _>(alloc, entries, point, challenges) else {
-        return false;
-    };
-    write(out, repeat_rounds(alloc, &tables, call, rounds))
 }

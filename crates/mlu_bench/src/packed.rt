@@ -1,8 +1,10 @@
 //! Tables of packed elements: made, unpacked and evaluated.
+ghost use Rattle.std.specs.Prelude.{◌≡◌, ◌*◌, ◌^◌, length, IsTrue};
 
 use crate::calls::Calls;
-use crate::case::{Case, first, first_lane};
+use crate::case::{Case, first_lane_of, first_of, is_small};
 use mlu_ring::{ExtensionField, Field, PackedValue};
+use multilinear_util::point::Point;
 use multilinear_util::poly::Poly;
 use std::alloc::{AllocError, Global};
 
@@ -14,33 +16,76 @@ pub struct PackedCalls<'a, F: Field, EF: ExtensionField<F>> {
     pub packed: &'a Poly<EF::ExtensionPacking>,
 }
 
+/// The table packed.
+fn packed_table<F: Field, EF: ExtensionField<F>>(
+    alloc: Global,
+    table: &Poly<EF>,
+) -> Result<Poly<EF::ExtensionPacking>, AllocError> {
+    if table.num_evals() < <F::Packing as PackedValue>::WIDTH {
+        return Err(AllocError);
+    }
+    table.pack::<F, EF>(alloc)
+}
+
+/// The packed table of the scaled weights of the point.
+fn packed_weights<F: Field, EF: ExtensionField<F>>(
+    alloc: Global,
+    point: &[EF],
+    scale: EF,
+) -> Result<Poly<EF::ExtensionPacking>, AllocError> {
+    if !is_small(point) || point.len() < <F::Packing as PackedValue>::LOG_WIDTH {
+        return Err(AllocError);
+    }
+    Poly::new_packed_from_point::<F, EF>(alloc, point, scale)
+}
+
+/// The table over the base with its first variable at `r`, packed.
+pub fn packed_fold<F: Field, EF: ExtensionField<F>>(
+    alloc: Global,
+    table: &Poly<F>,
+    r: EF,
+) -> Result<Poly<EF::ExtensionPacking>, AllocError> {
+    if table.num_evals() <= <F::Packing as PackedValue>::WIDTH {
+        return Err(AllocError);
+    }
+    table.fix_prefix_var_to_packed(alloc, r)
+}
+
+/// Whether the table has a lane for each weight of the point.
+fn has_lanes<P: Copy, EF: Copy>(packed: &Poly<P>, width: usize, point: &Point<EF>) -> bool
+    ensures { IsTrue result → length packed.now * width ≡ 2 ^ length point.now }
+{
+    let variables = point.num_variables();
+    if variables >= 32 {
+        return false;
+    }
+    packed.num_evals().checked_mul(width) == Some(1 << variables)
+}
+
+/// The value of the packed table at the point.
+fn value<F: Field, EF: ExtensionField<F>>(
+    alloc: Global,
+    packed: &Poly<EF::ExtensionPacking>,
+    point: &Point<EF>,
+) -> Result<EF, AllocError> {
+    if !has_lanes(packed, <F::Packing as PackedValue>::WIDTH, point) {
+        return Err(AllocError);
+    }
+    packed.eval_packed::<F, EF>(alloc, point)
+}
+
 impl<F: Field, EF: ExtensionField<F>> Calls for PackedCalls<'_, F, EF> {
     type Entry = EF;
 
     fn answer(&mut self, alloc: Global, call: u32) -> Result<EF, AllocError> {
         let (case, packed) = (self.case, self.packed);
-        let width = <F::Packing as PackedValue>::WIDTH;
-        if case.base.num_evals() <= width
-            || case.ext.num_evals() < width
-            || packed.num_evals().checked_mul(width) != Some(case.ext.num_evals())
-            || case.ext.num_variables() != case.point.num_variables()
-            || case.point.num_variables() >= 32
-            || case.point.num_variables() < <F::Packing as PackedValue>::LOG_WIDTH
-        {
-            return Err(AllocError);
-        }
-        if call == 1 {
-            let table = packed.unpack::<F, EF>(alloc)?;
-            return Ok(first(table.as_slice()));
-        }
-        if call == 2 {
-            return packed.eval_packed::<F, EF>(alloc, &case.point);
-        }
         let table = match call {
-            0 => case.ext.pack::<F, EF>(alloc)?,
-            3 => Poly::new_packed_from_point::<F, EF>(alloc, case.point.as_slice(), case.scale)?,
-            _ => case.base.fix_prefix_var_to_packed(alloc, case.scale)?,
+            0 => packed_table::<F, EF>(alloc, &case.ext),
+            1 => return first_of(packed.unpack::<F, EF>(alloc)),
+            2 => return value::<F, EF>(alloc, packed, &case.point),
+            3 => packed_weights::<F, EF>(alloc, case.point.as_slice(), case.scale),
+            _ => packed_fold::<F, EF>(alloc, &case.base, case.scale),
         };
-        Ok(first_lane::<F, EF>(table.as_slice()))
+        first_lane_of::<F, EF>(table)
     }
 }

@@ -1,74 +1,63 @@
-//! Rounds of sumcheck over two tables, repeated, each answered by an element of what they give.
+//! Sumcheck over the table of the extension and the weights of its point, each call answered by an element of
+//! what it gives.
 //!
 //! No law of rings says that the elements of a round fit the address space: calls that make one
 //! ask it.
 ghost use Rattle.std.specs.Prelude.{◌*◌, ◌<◌, ◌^◌};
 ghost use Rattle.std.specs.Mem.{type_size};
 
-use mlu_ring::{ExtensionField, Field, PrimeCharacteristicRing, SelfAlgebra};
+use crate::calls::Calls;
+use crate::case::{Case, is_small};
+use crate::splits::split_table;
+use mlu_ring::{Additive, ExtensionField, Field, PrimeCharacteristicRing, SelfAlgebra};
 use mlu_sumcheck::{bind, prove_round, prove_round_of_claim, run};
 use multilinear_util::point::Point;
 use multilinear_util::poly::Poly;
 use multilinear_util::split_eq::SplitEq;
 use std::alloc::{AllocError, Global};
 
-/// The values of a polynomial, the weights of a point, in two halves and joined, and a challenge
-/// for each variable.
+/// The whole proof: the sum of its claims.
 #[derive(Drop)]
-pub struct Tables<F: Field + Drop, EF: ExtensionField<F> + Drop> {
-    poly: Poly<EF>,
-    split: SplitEq<F, EF>,
-    weights: Poly<EF>,
-    challenges: Vec<EF>,
+pub struct ProofCalls<'a, F: Field, EF: ExtensionField<F>> {
+    case: &'a Case<F, EF>,
+    weights: SplitEq<F, EF>,
 }
 
-/// The tables of these values and of the weights of the point.
-pub fn tables_of<F: Field + Drop, EF: ExtensionField<F> + Drop>(
-    alloc: Global,
-    entries: Vec<EF>,
-    point: Vec<EF>,
-    challenges: Vec<EF>,
-) -> Result<Tables<F, EF>, AllocError> {
-    if !entries.len().is_power_of_two() {
-        return Err(AllocError);
+impl<'a, F: Field, EF: ExtensionField<F>> ProofCalls<'a, F, EF> {
+    /// The calls, over a split table that is made once.
+    pub fn new(alloc: Global, case: &'a Case<F, EF>) -> Result<Self, AllocError> {
+        let weights = split_table(alloc, &case.point, EF::ONE)?;
+        Ok(ProofCalls { case, weights })
     }
-    let poly = Poly::new(entries);
-    let point = Point::new(point);
-    if point.num_variables() != poly.num_variables() {
-        return Err(AllocError);
-    }
-    let split = SplitEq::<F, EF>::new_packed(alloc, &point, EF::ONE)?;
-    let weights = split.materialize(alloc)?;
-    Ok(Tables {
-        poly,
-        split,
-        weights,
-        challenges,
-    })
 }
 
-/// The sum of the claims of the whole proof.
-fn claims<F: Field + Drop, EF: ExtensionField<F> + SelfAlgebra + Drop>(
-    alloc: Global,
-    tables: &Tables<F, EF>,
-) -> Result<EF, AllocError> {
-    let challenges = tables.challenges.as_slice();
-    let variables = challenges.len();
-    if tables.poly.num_variables() != variables || tables.split.num_variables() != variables {
-        return Err(AllocError);
+/// The sum of the values.
+fn sum_of<R: Additive>(values: &[R]) -> R {
+    let mut sum = R::ZERO;
+    for value in values.iter() {
+        sum = sum + *value;
     }
-    let transcript = run(alloc, &tables.poly, &tables.split, challenges)?;
-    let mut sum = EF::ZERO;
-    for claim in transcript.claims.iter() {
-        sum = sum + *claim;
+    sum
+}
+
+impl<F: Field, EF: ExtensionField<F> + SelfAlgebra> Calls for ProofCalls<'_, F, EF> {
+    type Entry = EF;
+
+    fn answer(&mut self, alloc: Global, _: u32) -> Result<EF, AllocError> {
+        let (table, challenges) = (&self.case.ext, self.case.columns.as_slice());
+        let variables = challenges.len();
+        if table.num_variables() != variables || self.weights.num_variables() != variables {
+            return Err(AllocError);
+        }
+        let transcript = run(alloc, table, &self.weights, challenges)?;
+        Ok(sum_of(transcript.claims.as_slice()))
     }
-    Ok(sum)
 }
 
 /// The sum of the products of both tables, in one pass over them.
-fn sum_of_products<R: PrimeCharacteristicRing>(poly: &[R], weights: &[R]) -> R {
+fn sum_of_products<R: PrimeCharacteristicRing>(table: &[R], weights: &[R]) -> R {
     let mut sum = R::ZERO;
-    for (value, weight) in poly.iter().zip(weights.iter()) {
+    for (value, weight) in table.iter().zip(weights.iter()) {
         sum = sum + *weight * *value;
     }
     sum
@@ -76,65 +65,67 @@ fn sum_of_products<R: PrimeCharacteristicRing>(poly: &[R], weights: &[R]) -> R {
 
 /// The value at the challenge of the round of both tables (4), or of that which adds up to the challenge
 /// (5), and the sum of the first entries of both, folded there (3 to 5) or as they are (2), on copies.
-fn one_round<EF: SelfAlgebra>(
+fn one_round<R: SelfAlgebra>(
     alloc: Global,
-    poly: &Poly<EF>,
-    weights: &Poly<EF>,
-    challenge: EF,
+    table: &Poly<R>,
+    weights: &Poly<R>,
+    challenge: R,
     call: u32,
-) -> Result<EF, AllocError>
-    requires round_fits { 3 * type_size EF.row < 2 ^ 63 }
+) -> Result<R, AllocError>
+    requires round_fits { 3 * type_size R.row < 2 ^ 63 }
 {
-    let mut poly = poly.try_clone(alloc)?;
+    let mut table = table.try_clone(alloc)?;
     let mut weights = weights.try_clone(alloc)?;
-    if poly.num_evals() != weights.num_evals() || poly.num_evals() < 2 {
+    if table.num_evals() != weights.num_evals() || table.num_evals() < 2 {
         return Err(AllocError);
     }
     let [constant, linear, quadratic] = match call {
-        4 => prove_round(&poly, &weights),
-        5 => prove_round_of_claim(&poly, &weights, challenge),
-        _ => [EF::ZERO, EF::ZERO, EF::ZERO],
+        4 => prove_round(&table, &weights),
+        5 => prove_round_of_claim(&table, &weights, challenge),
+        _ => [R::ZERO, R::ZERO, R::ZERO],
     };
     let sum = constant + challenge * (linear + challenge * quadratic);
     if call != 2 {
-        bind(&mut poly, &mut weights, challenge);
+        bind(&mut table, &mut weights, challenge);
     }
-    Ok(sum + poly.as_slice()[0] + weights.as_slice()[0])
+    Ok(sum + table.as_slice()[0] + weights.as_slice()[0])
 }
 
-/// What the call with this number gives: the whole proof (0), one pass over both tables (1), copies
-/// of both (2), folded (3), and folded after their round (4), or after that of a claim (5).
-fn answer<F: Field + Drop, EF: ExtensionField<F> + SelfAlgebra + Drop>(
+/// What the call with this number gives: one pass over both tables (1), copies of both (2), folded (3), and
+/// folded after their round (4), or after that of a claim (5).
+fn answer<R: SelfAlgebra>(
     alloc: Global,
-    tables: &Tables<F, EF>,
+    table: &Poly<R>,
+    weights: &Poly<R>,
+    challenge: R,
     call: u32,
-) -> Result<EF, AllocError>
-    requires round_fits { 3 * type_size EF.row < 2 ^ 63 }
+) -> Result<R, AllocError>
+    requires round_fits { 3 * type_size R.row < 2 ^ 63 }
 {
-    if call == 0 {
-        return claims(alloc, tables);
-    }
     if call == 1 {
-        return Ok(sum_of_products(tables.poly.as_slice(), tables.weights.as_slice()));
+        return Ok(sum_of_products(table.as_slice(), weights.as_slice()));
     }
-    let Some(challenge) = tables.challenges.first() else {
-        return Err(AllocError);
-    };
-    one_round(alloc, &tables.poly, &tables.weights, *challenge, call)
+    one_round(alloc, table, weights, challenge, call)
 }
 
-/// The sum of what the call gives, made so many times on the same tables.
-pub fn repeat_rounds<F: Field + Drop, EF: ExtensionField<F> + SelfAlgebra + Drop>(
+/// The sum of what so many calls give, on the table and the weights of the point.
+pub fn sum_of_rounds<R: SelfAlgebra>(
     alloc: Global,
-    tables: &Tables<F, EF>,
+    table: &Poly<R>,
+    point: &Point<R>,
+    challenge: R,
     call: u32,
     rounds: usize,
-) -> Result<EF, AllocError>
-    requires round_fits { 3 * type_size EF.row < 2 ^ 63 }
+) -> Result<R, AllocError>
+    requires round_fits { 3 * type_size R.row < 2 ^ 63 }
 {
-    let mut sum = EF::ZERO;
+    if !is_small(point.as_slice()) {
+        return Err(AllocError);
+    }
+    let weights = Poly::new_from_point(alloc, point.as_slice(), R::ONE)?;
+    let mut sum = R::ZERO;
     for _ in 0..rounds {
-        sum = sum + answer(alloc, tables, call)?;
+        sum = sum + answer(alloc, table, &weights, challenge, call)?;
     }
     Ok(sum)
 }

@@ -3,35 +3,55 @@
 use crate::calls::Calls;
 use crate::case::{Case, first, first_lane};
 use crate::in_place::fold_in_turn;
-use mlu_ring::{Algebra, ExtensionField, Field, PackedValue};
+use crate::packed::packed_fold;
+use mlu_ring::{Additive, Algebra, ExtensionField, Field};
+use multilinear_util::poly::Poly;
 use std::alloc::{AllocError, Global};
 
 /// The folds at each coordinate of the point, to elements (0), or to packed elements until one of them is
 /// left (1).
 #[derive(Drop)]
-pub struct SequenceCalls<'a, F: Field, EF: ExtensionField<F>> {
+pub struct SequenceCalls<'a, F, EF> {
     pub case: &'a Case<F, EF>,
+}
+
+/// An entry of what is left of the table at `r` and then at the other coordinates.
+fn to_elements<F: Additive, EF: Algebra<F> + Algebra<EF>>(
+    alloc: Global,
+    table: &Poly<F>,
+    r: EF,
+    others: &[EF],
+) -> Result<EF, AllocError> {
+    if table.num_evals() < 2 {
+        return Err(AllocError);
+    }
+    let mut table = table.fix_prefix_var(alloc, r)?;
+    fold_in_turn(&mut table, others);
+    Ok(first(table.as_slice()))
+}
+
+/// The same of the packed table.
+fn to_packed<F: Field, EF: ExtensionField<F>>(
+    alloc: Global,
+    table: &Poly<F>,
+    r: EF,
+    others: &[EF],
+) -> Result<EF, AllocError> {
+    let mut table = packed_fold::<F, EF>(alloc, table, r)?;
+    fold_in_turn(&mut table, others);
+    Ok(first_lane::<F, EF>(table.as_slice()))
 }
 
 impl<F: Field, EF: ExtensionField<F> + Algebra<EF>> Calls for SequenceCalls<'_, F, EF> {
     type Entry = EF;
 
     fn answer(&mut self, alloc: Global, call: u32) -> Result<EF, AllocError> {
-        let base = &self.case.base;
         let Some((r, others)) = self.case.point.as_slice().split_first() else {
             return Err(AllocError);
         };
-        let width = <F::Packing as PackedValue>::WIDTH;
-        if base.num_evals() < 2 || base.num_evals() <= width {
-            return Err(AllocError);
+        match call {
+            0 => to_elements(alloc, &self.case.base, *r, others),
+            _ => to_packed(alloc, &self.case.base, *r, others),
         }
-        if call == 0 {
-            let mut table = base.fix_prefix_var(alloc, *r)?;
-            fold_in_turn(&mut table, others);
-            return Ok(first(table.as_slice()));
-        }
-        let mut table = base.fix_prefix_var_to_packed(alloc, *r)?;
-        fold_in_turn(&mut table, others);
-        Ok(first_lane::<F, EF>(table.as_slice()))
     }
 }

@@ -1,7 +1,7 @@
 //! Equality tables of a point, over any ring.
 
 use crate::calls::Calls;
-use crate::case::first;
+use crate::case::{first, first_of, is_small};
 use mlu_ring::Field;
 use multilinear_util::point::Point;
 use multilinear_util::poly::Poly;
@@ -19,17 +19,16 @@ impl<R: Field> Calls for TableCalls<'_, R> {
     type Entry = R;
 
     fn answer(&mut self, alloc: Global, call: u32) -> Result<R, AllocError> {
-        if self.point.num_variables() >= 32 {
+        if !is_small(self.point.as_slice()) {
             return Err(AllocError);
         }
         if call == 2 {
-            let table = Poly::new_from_point(alloc, self.point.as_slice(), self.r)?;
-            return Ok(first(table.as_slice()));
+            return first_of(Poly::new_from_point(alloc, self.point.as_slice(), self.r));
         }
         let table = match call {
-            0 => self.point.equality_weights_msb(alloc)?,
-            _ => self.point.equality_weights_lsb(alloc)?,
+            0 => self.point.equality_weights_msb(alloc),
+            _ => self.point.equality_weights_lsb(alloc),
         };
-        Ok(first(table.as_slice()))
+        Ok(first(table?.as_slice()))
     }
 }

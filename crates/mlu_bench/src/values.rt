@@ -1,8 +1,11 @@
 //! Values of a table at a point.
 
 use crate::calls::Calls;
-use crate::case::Case;
-use mlu_ring::{Algebra, ExtensionField, Field, PrimeCharacteristicRing};
+use crate::case::{Case, fits};
+use crate::splits::{split_table, unpacked_split_table};
+use mlu_ring::{ExtensionField, Field, PrimeCharacteristicRing};
+use multilinear_util::point::Point;
+use multilinear_util::poly::Poly;
 use multilinear_util::split_eq::SplitEq;
 use std::alloc::{AllocError, Global};
 
@@ -13,48 +16,57 @@ use std::alloc::{AllocError, Global};
 #[derive(Drop)]
 pub struct ValueCalls<F: Field, EF: ExtensionField<F>> {
     case: Case<F, EF>,
-    packed: SplitEq<F, EF>,
-    unpacked: SplitEq<F, EF>,
+    split: SplitEq<F, EF>,
 }
 
 impl<F: Field, EF: ExtensionField<F>> ValueCalls<F, EF> {
-    /// The calls, over split tables that are made once.
-    pub fn new(alloc: Global, case: Case<F, EF>) -> Result<Self, AllocError> {
-        if case.point.num_variables() >= 32 {
-            return Err(AllocError);
-        }
-        Ok(ValueCalls {
-            packed: SplitEq::new_packed(alloc, &case.point, EF::ONE)?,
-            unpacked: SplitEq::new_unpacked(alloc, &case.point, EF::ONE)?,
-            case,
-        })
+    /// The calls with this number, over a split table that is made once.
+    pub fn new(alloc: Global, case: Case<F, EF>, call: u32) -> Result<Self, AllocError> {
+        let split = match call {
+            3 => unpacked_split_table(alloc, &case.point, EF::ONE),
+            _ => split_table(alloc, &case.point, EF::ONE),
+        }?;
+        Ok(ValueCalls { case, split })
     }
 }
 
-/// The value that the call with this number gives.
-fn value<F: ExtensionField<F>, EF: ExtensionField<F>>(
+/// The value of the table at the point, or with each weight moved to the next row (4).
+fn at_point<F: Field, EF: ExtensionField<F>>(
     alloc: Global,
-    calls: &ValueCalls<F, EF>,
+    table: &Poly<F>,
+    point: &Point<EF>,
     call: u32,
 ) -> Result<EF, AllocError> {
-    let case = &calls.case;
-    let variables = case.base.num_variables();
-    if case.ext.num_variables() != variables
-        || case.base_point.num_variables() != variables
-        || case.point.num_variables() != variables
-        || calls.packed.num_variables() != variables
-        || calls.unpacked.num_variables() != variables
-    {
+    if !fits(point, table) {
         return Err(AllocError);
     }
     match call {
-        0 => Ok(EF::from_base(case.base.eval_base(alloc, &case.base_point)?)),
-        1 => case.base.eval_base(alloc, &case.point),
-        2 => Ok(calls.packed.eval_base(case.base.as_view())),
-        3 => Ok(calls.unpacked.eval_base(case.base.as_view())),
-        4 => case.base.eval_next_base(alloc, &case.point),
-        _ => case.ext.eval_ext::<F>(alloc, &case.point),
+        4 => table.eval_next_base(alloc, point),
+        _ => table.eval_base(alloc, point),
     }
+}
+
+/// The value of the table by the split table.
+fn by_split<F: Field, EF: ExtensionField<F>>(
+    table: &Poly<F>,
+    split: &SplitEq<F, EF>,
+) -> Result<EF, AllocError> {
+    if table.num_variables() != split.num_variables() {
+        return Err(AllocError);
+    }
+    Ok(split.eval_base(table.as_view()))
+}
+
+/// The value of the table over the extension at the point.
+fn of_extension<F: Field, EF: ExtensionField<F>>(
+    alloc: Global,
+    table: &Poly<EF>,
+    point: &Point<EF>,
+) -> Result<EF, AllocError> {
+    if !fits(point, table) {
+        return Err(AllocError);
+    }
+    table.eval_ext::<F>(alloc, point)
 }
 
 /// Adds one to the first of the values.
@@ -68,7 +80,13 @@ impl<F: ExtensionField<F>, EF: ExtensionField<F>> Calls for ValueCalls<F, EF> {
     type Entry = EF;
 
     fn answer(&mut self, alloc: Global, call: u32) -> Result<EF, AllocError> {
-        let answer = value(alloc, self, call)?;
+        let case = &self.case;
+        let answer = match call {
+            0 => Ok(EF::from_base(at_point(alloc, &case.base, &case.base_point, call)?)),
+            1 | 4 => at_point(alloc, &case.base, &case.point, call),
+            2 | 3 => by_split(&case.base, &self.split),
+            _ => of_extension::<F, EF>(alloc, &case.ext, &case.point),
+        }?;
         grow(self.case.base.as_mut_slice());
         grow(self.case.ext.as_mut_slice());
         Ok(answer)
