@@ -5,46 +5,29 @@
 //! of its coefficients; a table or a point is the words of its elements, one after the other. A call
 //! tests the size of each operand, then whether the sizes fit one another, then whether the words
 //! that it reads are residues, and answers with a status: 0 where it is done, 1 to 4 as
-//! [`fault::Fault`] has them, and 5 where a proof is refused. It writes at the end alone, so an
+//! [`mlu_words::Fault`] has them, and 5 where a proof is refused. It writes at the end alone, so an
 //! output is as before wherever the status is not 0.
 //!
 //! Sizes and statuses of each call stand in `bindings/c/mlu.h`.
 #![tactic(auto)]
 
 ghost use Rattle.mlu_ring.specs.Tables.{value};
-ghost use Rattle.mlu_c.specs.Calls.{embedded_next_value, embedded_prefix, embedded_suffix};
-ghost use Rattle.mlu_c.specs.Calls.{embedded_value, first_folded, last_folded, scaled_weights};
-ghost use Rattle.mlu_c.specs.Exports.{BatchesExtension, CompressesBase, EvaluatesBase, EvaluatesExtension};
-ghost use Rattle.mlu_c.specs.Exports.{FoldsExtension, ProvesExtension, TabulatesExtension, VerifiesExtension};
-ghost use Rattle.mlu_c.specs.Outcomes.{Answers, Judges};
+ghost use Rattle.mlu_words.specs.Calls.{embedded_next_value, embedded_prefix, embedded_suffix};
+ghost use Rattle.mlu_words.specs.Calls.{embedded_value, first_folded, last_folded, scaled_weights};
+ghost use Rattle.mlu_words.specs.Exports.{BatchesExtension, CompressesBase, EvaluatesBase, EvaluatesExtension};
+ghost use Rattle.mlu_words.specs.Exports.{FoldsExtension, ProvesExtension, TabulatesExtension, VerifiesExtension};
+ghost use Rattle.mlu_words.specs.Outcomes.{Answers, Judges};
 
-mod batches;
-mod compression;
-mod evaluation;
-mod fault;
-mod folds;
-mod operands;
-mod sizes;
-mod sumcheck;
-mod tables;
-mod words;
-
-use crate::fault::{status, verdict};
-use mlu_ext::QuarticExtension;
-use mlu_lanes::BabyBear;
 use mlu_point::point::BitOrder;
+use mlu_words::{Variables, Vertices, status, verdict};
 use std::alloc::Global;
-
-type Element = BabyBear<8>;
-
-type Extension = QuarticExtension<Element>;
 
 /// The value of a table over the base field at a point of the extension.
 #[unsafe(no_mangle)]
 pub extern "C" fn mlu_eval_base(alloc: Global, table: &[u32], point: &[u32], out: &mut [u32]) -> u32
     ensures { Answers (EvaluatesBase embedded_value table.now point.now out.old out.new) result }
 {
-    status(evaluation::eval_base::<Element, Extension>(alloc, table, point, out))
+    status(mlu_words::eval_base(alloc, Vertices::Own, table, point, out))
 }
 
 /// The value of a table over the extension at a point.
@@ -52,7 +35,7 @@ pub extern "C" fn mlu_eval_base(alloc: Global, table: &[u32], point: &[u32], out
 pub extern "C" fn mlu_eval_ext(alloc: Global, table: &[u32], point: &[u32], out: &mut [u32]) -> u32
     ensures { Answers (EvaluatesExtension value table.now point.now out.old out.new) result }
 {
-    status(evaluation::eval_ext::<Element, Extension>(alloc, table, point, out))
+    status(mlu_words::eval_ext(alloc, table, point, out))
 }
 
 /// The sum of the weight at a point of the extension of each vertex times the value at the next one, of a
@@ -66,7 +49,7 @@ pub extern "C" fn mlu_eval_next_base(
 ) -> u32
     ensures { Answers (EvaluatesBase embedded_next_value table.now point.now out.old out.new) result }
 {
-    status(evaluation::eval_next_base::<Element, Extension>(alloc, table, point, out))
+    status(mlu_words::eval_base(alloc, Vertices::Next, table, point, out))
 }
 
 /// The weights of all vertices at a point of the extension, where coordinate 0 reads the highest bit of an
@@ -80,7 +63,7 @@ pub extern "C" fn mlu_equality_weights_msb(
 ) -> u32
     ensures { Answers (TabulatesExtension (scaled_weights BitOrder.Msb) point.now scale.now out.old out.new) result }
 {
-    status(tables::equality_weights::<Extension>(alloc, BitOrder::Msb, point, scale, out))
+    status(mlu_words::equality_weights(alloc, BitOrder::Msb, point, scale, out))
 }
 
 /// The weights of all vertices at a point of the extension, where coordinate 0 reads the lowest bit of an
@@ -94,7 +77,7 @@ pub extern "C" fn mlu_equality_weights_lsb(
 ) -> u32
     ensures { Answers (TabulatesExtension (scaled_weights BitOrder.Lsb) point.now scale.now out.old out.new) result }
 {
-    status(tables::equality_weights::<Extension>(alloc, BitOrder::Lsb, point, scale, out))
+    status(mlu_words::equality_weights(alloc, BitOrder::Lsb, point, scale, out))
 }
 
 /// The sum of the equality tables of points, each times a scalar, written to the output or added to
@@ -110,7 +93,7 @@ pub extern "C" fn mlu_eval_eq_batch(
 ) -> u32
     ensures { Answers (BatchesExtension adds values.now scalars.now out.old out.new) result }
 {
-    status(batches::eval_eq_batch::<Element, Extension>(alloc, adds, values, scalars, out))
+    status(mlu_words::eval_eq_batch(alloc, adds, values, scalars, out))
 }
 
 /// A table over the extension with its first variable at `r`, in the first half of its words.
@@ -118,7 +101,7 @@ pub extern "C" fn mlu_eval_eq_batch(
 pub extern "C" fn mlu_fix_prefix_var_mut(alloc: Global, table: &mut [u32], r: &[u32]) -> u32
     ensures { Answers (FoldsExtension first_folded r.now table.old table.new) result }
 {
-    status(folds::fix_prefix_var_mut::<Extension>(alloc, table, r))
+    status(mlu_words::fix_var_mut(alloc, Variables::First, table, r))
 }
 
 /// A table over the extension with its last variable at `r`, in the first half of its words.
@@ -126,7 +109,7 @@ pub extern "C" fn mlu_fix_prefix_var_mut(alloc: Global, table: &mut [u32], r: &[
 pub extern "C" fn mlu_fix_suffix_var_mut(alloc: Global, table: &mut [u32], r: &[u32]) -> u32
     ensures { Answers (FoldsExtension last_folded r.now table.old table.new) result }
 {
-    status(folds::fix_suffix_var_mut::<Extension>(alloc, table, r))
+    status(mlu_words::fix_var_mut(alloc, Variables::Last, table, r))
 }
 
 /// A table over the base field with its first variables at a point of the extension, times a scale.
@@ -140,7 +123,7 @@ pub extern "C" fn mlu_compress_prefix(
 ) -> u32
     ensures { Answers (CompressesBase embedded_prefix table.now point.now scale.now out.old out.new) result }
 {
-    status(compression::compress_prefix::<Element, Extension>(alloc, table, point, scale, out))
+    status(mlu_words::compress(alloc, Variables::First, table, point, scale, out))
 }
 
 /// A table over the base field with its last variables at a point of the extension, times a scale.
@@ -154,7 +137,7 @@ pub extern "C" fn mlu_compress_suffix(
 ) -> u32
     ensures { Answers (CompressesBase embedded_suffix table.now point.now scale.now out.old out.new) result }
 {
-    status(compression::compress_suffix::<Element, Extension>(alloc, table, point, scale, out))
+    status(mlu_words::compress(alloc, Variables::Last, table, point, scale, out))
 }
 
 /// The rounds of sumcheck over a table of the extension and the weights of a point, at challenges,
@@ -170,9 +153,7 @@ pub extern "C" fn mlu_sumcheck_run(
 ) -> u32
     ensures { Answers (ProvesExtension table.now point.now challenges.now rounds.old claims.old rounds.new claims.new) result }
 {
-    status(sumcheck::sumcheck_run::<Element, Extension>(
-        alloc, table, point, challenges, rounds, claims,
-    ))
+    status(mlu_words::sumcheck_run(alloc, table, point, challenges, rounds, claims))
 }
 
 /// Whether the rounds fit a claim at the challenges: the last claim where they do, and status 5
@@ -187,7 +168,7 @@ pub extern "C" fn mlu_sumcheck_verify(
 ) -> u32
     ensures { Judges (VerifiesExtension claim.now rounds.now challenges.now out.old out.new) result }
 {
-    verdict(sumcheck::sumcheck_verify::<Extension>(alloc, claim, rounds, challenges, out))
+    verdict(mlu_words::sumcheck_verify(alloc, claim, rounds, challenges, out))
 }
 
 #[cfg(test)]
