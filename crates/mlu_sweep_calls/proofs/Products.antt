@@ -1,11 +1,10 @@
--- Chunks of a batch whose points stand in v values.
-use Rattle.std.proofs.Common.{◌≡◌, ℕ, ◌*◌, ◌/◌, ◌<◌, ◌≤◌, ap, ◌∙◌, subst, sym, arith}
-use Rattle.std.proofs.Math.Nat.{mul-div_cancel}
+-- The entries of a table's rows, counted by the halves of the table, and chunks of a batch.
+use Rattle.std.proofs.Common.{◌≡◌, ℕ, ◌*◌, ◌/◌, ◌<◌, ◌≤◌, ap, ◌∙◌, subst, sym}
+use Rattle.std.proofs.Math.Nat.{mul_assoc, mul-div_cancel}
 
--- as many chunks as 2^chunks cut a table of n variables, where the points have no fewer
-pub chunks_fit : (v n points chunks : ℕ) → (0 < points → n ≤ v / points) → chunks ≤ n → 0 < points → chunks ≤ v / points
-chunks_fit v n points chunks height few some = omega (arith, height some, few)
+pub rows : (x m e w s p : ℕ) → x ≡ m * s → m ≡ e * w → s ≡ p → x ≡ e * (w * p)
+rows x m e w s p count same short = count ∙ ap (λ k. k * s) same ∙ mul_assoc e w s ∙ ap (λ k. e * (w * k)) short
 
--- v values are n rows of the points
-pub rows_are : (v n points : ℕ) → v ≡ n * points → 0 < points → n ≤ v / points
-rows_are v n points count some = subst (λ k. n ≤ k) (sym (ap (λ k. k / points) count ∙ mul-div_cancel n some)) (omega arith)
+-- as many chunks as 2^chunks cut a table of n variables, whose points stand in v values
+pub chunks_fit : (v n points chunks : ℕ) → v ≡ n * points → chunks ≤ n → 0 < points → chunks ≤ v / points
+chunks_fit v n points chunks count few some = subst (λ k. chunks ≤ k) (sym (ap (λ k. k / points) count ∙ mul-div_cancel n some)) few

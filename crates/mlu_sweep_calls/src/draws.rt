@@ -1,5 +1,5 @@
 //! Drawn elements, with those in between that a shortcut could stumble over.
-ghost use Rattle.std.specs.Prelude.{◌≡◌, ◌*◌, IfOk, vec_len};
+ghost use Rattle.std.specs.Prelude.{◌≡◌, IfOk, vec_len};
 
 use mlu_ring::{PrimeCharacteristicRing, Sample};
 use mlu_test_tables::poly;
@@ -31,33 +31,6 @@ pub fn elements<T: PrimeCharacteristicRing + Sample>(
         values.push(element(rng))?;
     }
     Ok(values)
-}
-
-/// So many rows of drawn elements, each of the width.
-pub fn rows<T: PrimeCharacteristicRing + Sample>(
-    alloc: Global,
-    rng: &mut Pcg32,
-    rows: usize,
-    width: usize,
-) -> Result<Vec<T>, AllocError>
-    ensures { IfOk result (λ values. vec_len values ≡ rows * width) }
-{
-    let n = rows.checked_mul(width).ok_or(AllocError)?;
-    elements(alloc, rng, n)
-}
-
-/// So many blocks of drawn elements, each of so many rows of the width.
-pub fn blocks<T: PrimeCharacteristicRing + Sample>(
-    alloc: Global,
-    rng: &mut Pcg32,
-    blocks: usize,
-    rows_of_each: usize,
-    width: usize,
-) -> Result<Vec<T>, AllocError>
-    ensures { IfOk result (λ values. vec_len values ≡ blocks * (rows_of_each * width)) }
-{
-    let size = rows_of_each.checked_mul(width).ok_or(AllocError)?;
-    rows(alloc, rng, blocks, size)
 }
 
 /// A polynomial with drawn values. Fails at 32 variables and more.

@@ -1,9 +1,8 @@
 //! The calls of `mlu_eq` on split tables by themselves: first halves of any length, none too.
 ghost use Rattle.std.specs.Prelude.{◌≡◌, ◌*◌, ◌<◌, length};
 
-use crate::definitions::{compressed_suffix, dot, plus_rows, plus_scaled, two_and_steps};
-use crate::draws::{blocks, element, elements, rows};
-use crate::lanes::whole_packings;
+use crate::definitions::{plus_rows, plus_scaled, two_and_steps};
+use crate::draws::{element, elements};
 use crate::report::{Report, Shape};
 use mlu_eq::split::{
     accumulate_into, accumulate_into_packed, compress_prefix_into, compress_prefix_shifted_into,
@@ -36,7 +35,7 @@ pub fn compare<F: Field + Sample, EF: ExtensionField<F> + Sample>(
     for variables in 0..=MOST_VARIABLES {
         let weights: Vec<EF> = elements(alloc, rng, 1 << variables)?;
         report.form = " (scalars)";
-        in_scalars::<F, EF>(alloc, report, rng, &weights)?;
+        scalars::<F, EF>(alloc, report, rng, &weights)?;
         report.form = " (lanes)";
         in_lanes::<F, EF>(alloc, report, rng, &weights)?;
         report.form = "";
@@ -45,7 +44,7 @@ pub fn compare<F: Field + Sample, EF: ExtensionField<F> + Sample>(
 }
 
 /// Compares the calls on these weights as scalars.
-fn in_scalars<F: Field + Sample, EF: ExtensionField<F> + Sample>(
+fn scalars<F: Field + Sample, EF: ExtensionField<F> + Sample>(
     alloc: Global,
     report: &mut Report,
     rng: &mut Pcg32,
@@ -75,7 +74,7 @@ fn in_lanes<F: Field + Sample, EF: ExtensionField<F> + Sample>(
     with_rows(alloc, report, rng, &eq1, weights)
 }
 
-/// Compares the calls on a second half with these weights, and on a copy of it with each drawn first half.
+/// Compares the calls on a second half with these weights, with each drawn first half.
 fn with_rows<F: Field + Sample, EF: ExtensionField<F> + Sample>(
     alloc: Global,
     report: &mut Report,
@@ -87,6 +86,35 @@ fn with_rows<F: Field + Sample, EF: ExtensionField<F> + Sample>(
     if variables >= 32 || weights.len() != 1 << variables {
         return Err(AllocError);
     }
+    steps(alloc, report, rng, &eq1.try_clone(alloc)?, weights)?;
+    for rows in ROWS {
+        let eq0: Vec<EF> = elements(alloc, rng, rows)?;
+        if eq0.len() >= 256 || weights.len() >= 256 {
+            return Err(AllocError);
+        }
+        let whole = plain::split_table(alloc, &eq0, weights)?;
+        report.shape = Shape::Split {
+            rows,
+            variables,
+            places: 1,
+        };
+        dots(alloc, report, rng, &eq0, eq1, &whole)?;
+        accumulations(alloc, report, rng, &eq0, eq1, &whole)?;
+        compressions(alloc, report, rng, &eq0, eq1, &whole)?;
+    }
+    Ok(())
+}
+
+/// Compares what a second half says of its weights, and its step to the next row.
+fn steps<F: Field, EF: ExtensionField<F> + Sample>(
+    alloc: Global,
+    report: &mut Report,
+    rng: &mut Pcg32,
+    eq1: &EqMaybePacked<F, EF>,
+    weights: &[EF],
+) -> Result<(), AllocError>
+    requires { length weights.now ≡ length eq1.now.weights }
+{
     report.shape = Shape::Slice {
         entries: weights.len(),
     };
@@ -95,81 +123,33 @@ fn with_rows<F: Field + Sample, EF: ExtensionField<F> + Sample>(
     let last = plain::last(weights);
     report.value("EqMaybePacked::last_scalar", eq1.last_scalar(), last);
     let factors = (element(rng), element(rng), element(rng));
-    step(alloc, report, eq1, weights, factors)?;
-    let copy = eq1.try_clone(alloc)?;
-    for rows in ROWS {
-        with_drawn_rows(alloc, report, rng, rows, &copy, weights)?;
-    }
-    Ok(())
-}
-
-/// Compares the step to the next row that a second half with these weights adds to twos.
-pub fn step<F: Field, EF: ExtensionField<F>>(
-    alloc: Global,
-    report: &mut Report,
-    eq1: &EqMaybePacked<F, EF>,
-    weights: &[EF],
-    factors: (EF, EF, EF),
-) -> Result<(), AllocError>
-    requires { length weights.now ≡ length eq1.now.weights }
-{
     let mut out = filled(alloc, EF::TWO, weights.len())?;
     eq1.accumulate_next_chunk_into(&mut out, factors.0, factors.1, factors.2);
-    let sums = two_and_steps(alloc, weights, factors);
-    report.lists("EqMaybePacked::accumulate_next_chunk_into", Ok(out), sums);
+    let sums = two_and_steps(alloc, weights, factors)?;
+    report.values("EqMaybePacked::accumulate_next_chunk_into", &out, &sums);
     Ok(())
 }
 
-/// Compares the calls on a first half of so many drawn entries.
-fn with_drawn_rows<F: Field + Sample, EF: ExtensionField<F> + Sample>(
-    alloc: Global,
-    report: &mut Report,
-    rng: &mut Pcg32,
-    rows: usize,
-    eq1: &EqMaybePacked<F, EF>,
-    weights: &[EF],
-) -> Result<(), AllocError>
-    requires { length weights.now ≡ length eq1.now.weights }
-{
-    let eq0: Vec<EF> = elements(alloc, rng, rows)?;
-    if eq0.len() >= 256 || weights.len() >= 256 {
-        return Err(AllocError);
-    }
-    let whole = plain::split_table(alloc, &eq0, weights)?;
-    let moved = plain::moved(alloc, &whole)?;
-    with_table(
-        alloc,
-        report,
-        rng,
-        &eq0,
-        eq1,
-        (&whole, &moved),
-        weights.len(),
-    )
-}
-
-/// Compares the calls on the table of both halves, and on that moved up by one place.
-fn with_table<F: Field + Sample, EF: ExtensionField<F> + Sample>(
+/// Compares the compressions that leave so many places, for each number of them.
+fn compressions<F: Field + Sample, EF: ExtensionField<F> + Sample>(
     alloc: Global,
     report: &mut Report,
     rng: &mut Pcg32,
     eq0: &[EF],
     eq1: &EqMaybePacked<F, EF>,
-    tables: (&[EF], &[EF]),
-    weights: usize,
+    whole: &[EF],
 ) -> Result<(), AllocError>
-    requires weights { weights ≡ length eq1.now.weights }
-    requires table { length tables.0.now ≡ length eq0.now * length eq1.now.weights }
+    requires { length whole.now ≡ length eq0.now * length eq1.now.weights }
 {
-    report.shape = Shape::Split {
-        rows: eq0.len(),
-        variables: eq1.num_variables(),
-        places: 1,
-    };
-    dots(alloc, report, rng, eq0, eq1, tables)?;
-    accumulations(alloc, report, rng, eq0, eq1, tables.0)?;
     for places in PLACES {
-        compressions(alloc, report, rng, eq0, eq1, tables, (weights, places))?;
+        report.shape = Shape::Split {
+            rows: eq0.len(),
+            variables: eq1.num_variables(),
+            places,
+        };
+        prefixes(alloc, report, rng, eq0, eq1, whole, places)?;
+        prefixes_to_lanes(alloc, report, rng, eq0, eq1, whole, places)?;
+        suffixes(alloc, report, rng, eq0, eq1, whole, places)?;
     }
     Ok(())
 }
@@ -181,23 +161,26 @@ fn dots<F: Field + Sample, EF: ExtensionField<F> + Sample>(
     rng: &mut Pcg32,
     eq0: &[EF],
     eq1: &EqMaybePacked<F, EF>,
-    tables: (&[EF], &[EF]),
+    whole: &[EF],
 ) -> Result<(), AllocError>
-    requires { length tables.0.now ≡ length eq0.now * length eq1.now.weights }
+    requires { length whole.now ≡ length eq0.now * length eq1.now.weights }
 {
-    let base: Vec<F> = elements(alloc, rng, tables.0.len())?;
-    let answer = dot_base(eq0, eq1, &base);
-    report.results("split::dot_base", Ok(answer), dot(alloc, tables.0, &base));
-    let sum = dot(alloc, tables.1, &base);
-    let answer = dot_base_shifted(eq0, eq1, &base);
-    report.results("split::dot_base_shifted", Ok(answer), sum);
-    let ext: Vec<EF> = elements(alloc, rng, tables.0.len())?;
-    let sum = plain::dot(tables.0, &ext);
-    report.value("split::dot_ext", dot_ext(eq0, eq1, &ext), sum);
-    if eq1.is_packed() {
-        let entries = whole_packings::<F, EF>(alloc, &ext)?;
-        report.value("split::dot_packed", dot_packed(eq0, eq1, &entries), sum);
+    let base: Vec<F> = elements(alloc, rng, whole.len())?;
+    let images: Vec<EF> = plain::images(alloc, &base)?;
+    let sum = dot_base(eq0, eq1, &base);
+    report.value("split::dot_base", sum, plain::dot(whole, &images));
+    let moved = plain::moved(alloc, whole)?;
+    let sum = dot_base_shifted(eq0, eq1, &base);
+    report.value("split::dot_base_shifted", sum, plain::dot(&moved, &images));
+    let ext: Vec<EF> = elements(alloc, rng, whole.len())?;
+    let defined = plain::dot(whole, &ext);
+    report.value("split::dot_ext", dot_ext(eq0, eq1, &ext), defined);
+    let n = ext.len().checked_div(F::Packing::WIDTH).unwrap_or(0);
+    if !eq1.is_packed() || n.checked_mul(F::Packing::WIDTH) != Some(ext.len()) {
+        return Ok(());
     }
+    let entries = packed::<F, EF>(alloc, &ext, n)?;
+    report.value("split::dot_packed", dot_packed(eq0, eq1, &entries), defined);
     Ok(())
 }
 
@@ -214,41 +197,19 @@ fn accumulations<F: Field + Sample, EF: ExtensionField<F> + Sample>(
 {
     let before: Vec<EF> = elements(alloc, rng, whole.len())?;
     let scale = element(rng);
+    let sums = plus_scaled(alloc, &before, scale, whole)?;
     let mut out = Vec::from_slice(alloc, &before)?;
     accumulate_into(eq0, eq1, &mut out, scale);
-    let sums = plus_scaled(alloc, &before, scale, whole);
-    report.lists("split::accumulate_into", Ok(out), sums);
-    if eq1.is_packed() {
-        let mut out = whole_packings::<F, EF>(alloc, &before)?;
-        accumulate_into_packed(eq0, eq1, &mut out, scale);
-        let sums = plus_scaled(alloc, &before, scale, whole);
-        let answer = lanes::<F, EF>(alloc, &out);
-        report.lists("split::accumulate_into_packed", answer, sums);
+    report.values("split::accumulate_into", &out, &sums);
+    let n = before.len().checked_div(F::Packing::WIDTH).unwrap_or(0);
+    if !eq1.is_packed() || n.checked_mul(F::Packing::WIDTH) != Some(before.len()) {
+        return Ok(());
     }
+    let mut out = packed::<F, EF>(alloc, &before, n)?;
+    accumulate_into_packed(eq0, eq1, &mut out, scale);
+    let after = lanes::<F, EF>(alloc, &out)?;
+    report.values("split::accumulate_into_packed", &after, &sums);
     Ok(())
-}
-
-/// Compares the compressions that leave so many places.
-fn compressions<F: Field + Sample, EF: ExtensionField<F> + Sample>(
-    alloc: Global,
-    report: &mut Report,
-    rng: &mut Pcg32,
-    eq0: &[EF],
-    eq1: &EqMaybePacked<F, EF>,
-    tables: (&[EF], &[EF]),
-    sizes: (usize, usize),
-) -> Result<(), AllocError>
-    requires weights { sizes.0 ≡ length eq1.now.weights }
-    requires table { length tables.0.now ≡ length eq0.now * length eq1.now.weights }
-{
-    report.shape = Shape::Split {
-        rows: eq0.len(),
-        variables: eq1.num_variables(),
-        places: sizes.1,
-    };
-    prefixes(alloc, report, rng, eq0, eq1, tables, sizes)?;
-    prefixes_to_lanes(alloc, report, rng, eq0, eq1, tables.0, sizes)?;
-    suffixes(alloc, report, rng, eq0, eq1, tables, sizes.1)
 }
 
 /// Compares the rows of drawn entries that are added to so many drawn places, by the table and by the
@@ -259,21 +220,23 @@ fn prefixes<F: Field + Sample, EF: ExtensionField<F> + Sample>(
     rng: &mut Pcg32,
     eq0: &[EF],
     eq1: &EqMaybePacked<F, EF>,
-    tables: (&[EF], &[EF]),
-    sizes: (usize, usize),
+    whole: &[EF],
+    places: usize,
 ) -> Result<(), AllocError>
-    requires { sizes.0 ≡ length eq1.now.weights }
+    requires { length whole.now ≡ length eq0.now * length eq1.now.weights }
 {
-    let base: Vec<F> = blocks(alloc, rng, eq0.len(), sizes.0, sizes.1)?;
-    let before: Vec<EF> = elements(alloc, rng, sizes.1)?;
+    let size = whole.len().checked_mul(places).ok_or(AllocError)?;
+    let base: Vec<F> = elements(alloc, rng, size)?;
+    let before: Vec<EF> = elements(alloc, rng, places)?;
+    let sums = plus_rows(alloc, &before, (EF::ONE, whole), &base)?;
     let mut out = Vec::from_slice(alloc, &before)?;
     compress_prefix_into(eq0, eq1, &mut out, &base);
-    let sums = plus_rows(alloc, &before, (EF::ONE, tables.0), &base);
-    report.lists("split::compress_prefix_into", Ok(out), sums);
+    report.values("split::compress_prefix_into", &out, &sums);
+    let moved = plain::moved(alloc, whole)?;
+    let sums = plus_rows(alloc, &before, (EF::ONE, &moved), &base)?;
     let mut out = Vec::from_slice(alloc, &before)?;
     compress_prefix_shifted_into(eq0, eq1, &mut out, &base);
-    let sums = plus_rows(alloc, &before, (EF::ONE, tables.1), &base);
-    report.lists("split::compress_prefix_shifted_into", Ok(out), sums);
+    report.values("split::compress_prefix_shifted_into", &out, &sums);
     Ok(())
 }
 
@@ -285,17 +248,19 @@ fn prefixes_to_lanes<F: Field + Sample, EF: ExtensionField<F> + Sample>(
     eq0: &[EF],
     eq1: &EqMaybePacked<F, EF>,
     whole: &[EF],
-    sizes: (usize, usize),
+    places: usize,
 ) -> Result<(), AllocError>
-    requires { sizes.0 ≡ length eq1.now.weights }
+    requires { length whole.now ≡ length eq0.now * length eq1.now.weights }
 {
-    let before: Vec<EF> = rows(alloc, rng, sizes.1, F::Packing::WIDTH)?;
-    let base: Vec<F> = blocks(alloc, rng, eq0.len(), sizes.0, before.len())?;
-    let mut out = packed::<F, EF>(alloc, &before, sizes.1)?;
+    let row = places.checked_mul(F::Packing::WIDTH).ok_or(AllocError)?;
+    let size = whole.len().checked_mul(row).ok_or(AllocError)?;
+    let base: Vec<F> = elements(alloc, rng, size)?;
+    let before: Vec<EF> = elements(alloc, rng, row)?;
+    let sums = plus_rows(alloc, &before, (EF::ONE, whole), &base)?;
+    let mut out = packed::<F, EF>(alloc, &before, places)?;
     compress_prefix_to_packed_into(eq0, eq1, &mut out, &base);
-    let sums = plus_rows(alloc, &before, (EF::ONE, whole), &base);
-    let answer = lanes::<F, EF>(alloc, &out);
-    report.lists("split::compress_prefix_to_packed_into", answer, sums);
+    let after = lanes::<F, EF>(alloc, &out)?;
+    report.values("split::compress_prefix_to_packed_into", &after, &sums);
     Ok(())
 }
 
@@ -307,22 +272,25 @@ fn suffixes<F: Field + Sample, EF: ExtensionField<F> + Sample>(
     rng: &mut Pcg32,
     eq0: &[EF],
     eq1: &EqMaybePacked<F, EF>,
-    tables: (&[EF], &[EF]),
+    whole: &[EF],
     places: usize,
 ) -> Result<(), AllocError>
-    requires { length tables.0.now ≡ length eq0.now * length eq1.now.weights }
+    requires { length whole.now ≡ length eq0.now * length eq1.now.weights }
 {
     if eq0.is_empty() {
         return Ok(());
     }
-    let base: Vec<F> = rows(alloc, rng, places, tables.0.len())?;
+    let size = places.checked_mul(whole.len()).ok_or(AllocError)?;
+    let base: Vec<F> = elements(alloc, rng, size)?;
+    let images: Vec<EF> = plain::images(alloc, &base)?;
     let mut out = filled(alloc, EF::TWO, places)?;
     compress_suffix_into(eq0, eq1, &mut out, &base);
-    let sums = compressed_suffix(alloc, tables.0, &base);
-    report.lists("split::compress_suffix_into", Ok(out), sums);
+    let sums = plain::compressed_suffix(alloc, whole, &images)?;
+    report.values("split::compress_suffix_into", &out, &sums);
+    let moved = plain::moved(alloc, whole)?;
     let mut out = filled(alloc, EF::TWO, places)?;
     compress_suffix_shifted_into(eq0, eq1, &mut out, &base);
-    let sums = compressed_suffix(alloc, tables.1, &base);
-    report.lists("split::compress_suffix_shifted_into", Ok(out), sums);
+    let sums = plain::compressed_suffix(alloc, &moved, &images)?;
+    report.values("split::compress_suffix_shifted_into", &out, &sums);
     Ok(())
 }

@@ -12,7 +12,6 @@ mod draws;
 mod folds;
 mod halves;
 mod kernels;
-mod lanes;
 mod points;
 mod polys;
 mod report;

@@ -1,8 +1,6 @@
 //! What a sweep has found.
 
 use mlu_ring::Additive;
-use multilinear_util::poly::Poly;
-use std::alloc::AllocError;
 use std::fmt;
 
 /// What the values at hand are made of.
@@ -47,40 +45,25 @@ impl fmt::Display for Shape {
             Shape::Polynomial {
                 variables,
                 coordinates,
-            } => write_sizes(f, (variables, "variables at"), (coordinates, "coordinates")),
+            } => write!(f, "{variables} variables at {coordinates} coordinates"),
             Shape::Slice { entries } => write!(f, "{entries} entries"),
             Shape::Dot { weights, rows } => {
-                write_sizes(f, (weights, "packed weights and"), (rows, "rows"))
+                write!(f, "{weights} packed weights and {rows} rows")
             }
             Shape::Prefix { weights, places } => {
-                write_sizes(
-                    f,
-                    (weights, "packed weights and"),
-                    (places, "packed places"),
-                )
+                write!(f, "{weights} packed weights and {places} packed places")
             }
-            Shape::Basis { rows, values } => {
-                write_sizes(f, (rows, "rows of"), (values, "packed values"))
-            }
+            Shape::Basis { rows, values } => write!(f, "{rows} rows of {values} packed values"),
             Shape::Split {
                 rows,
                 variables,
                 places,
-            } => {
-                write!(f, "{rows} rows of ")?;
-                write_sizes(f, (variables, "variables and"), (places, "places"))
-            }
+            } => write!(
+                f,
+                "{rows} rows of {variables} variables and {places} places"
+            ),
         }
     }
-}
-
-/// Writes two sizes, each with its name.
-fn write_sizes<W: fmt::Write>(
-    f: &mut fmt::Formatter<W>,
-    (first, first_name): (usize, &str),
-    (second, second_name): (usize, &str),
-) -> fmt::Result {
-    write!(f, "{first} {first_name} {second} {second_name}")
 }
 
 /// The first answer that differs from the definition.
@@ -106,12 +89,9 @@ pub struct Report {
     pub shape: Shape,
     /// How an operand was made where it is made in more than one way, or nothing.
     pub form: &'static str,
-    difference: Option<Difference>,
-    is_refused: bool,
+    pub difference: Option<Difference>,
 }
 
-/// A call that is compared gives its answer as it comes: the report notes where memory was refused, to
-/// the call or to the definition.
 impl Report {
     /// Nothing compared yet.
     pub fn new() -> Self {
@@ -119,19 +99,7 @@ impl Report {
             shape: Shape::Slice { entries: 0 },
             form: "",
             difference: None,
-            is_refused: false,
         }
-    }
-
-    /// The first difference, if there is one.
-    ///
-    /// # Errors
-    /// Where memory was refused.
-    pub fn outcome(&self) -> Result<Option<Difference>, AllocError> {
-        if self.is_refused {
-            return Err(AllocError);
-        }
-        Ok(self.difference)
     }
 
     /// Notes where the answer of the call differs, unless a difference was met before.
@@ -155,89 +123,6 @@ impl Report {
         }
     }
 
-    /// As [`Report::value`], for what may be refused.
-    pub fn results<R: Additive>(
-        &mut self,
-        call: &'static str,
-        answer: Result<R, AllocError>,
-        defined: Result<R, AllocError>,
-    ) {
-        match (answer, defined) {
-            (Ok(answer), Ok(defined)) => self.value(call, answer, defined),
-            _ => self.refuse(),
-        }
-    }
-
-    /// As [`Report::value`], for an answer that may be refused.
-    pub fn result<R: Additive>(
-        &mut self,
-        call: &'static str,
-        answer: Result<R, AllocError>,
-        defined: R,
-    ) {
-        match answer {
-            Ok(answer) => self.value(call, answer, defined),
-            Err(_) => self.refuse(),
-        }
-    }
-
-    /// As [`Report::values`], for an answer that may be refused.
-    pub fn list<R: Additive>(
-        &mut self,
-        call: &'static str,
-        answer: Result<Vec<R>, AllocError>,
-        defined: &[R],
-    ) {
-        match answer {
-            Ok(answer) => self.values(call, &answer, defined),
-            Err(_) => self.refuse(),
-        }
-    }
-
-    /// As [`Report::list`], with a definition that may be refused too.
-    pub fn lists<R: Additive>(
-        &mut self,
-        call: &'static str,
-        answer: Result<Vec<R>, AllocError>,
-        defined: Result<Vec<R>, AllocError>,
-    ) {
-        match defined {
-            Ok(defined) => self.list(call, answer, &defined),
-            Err(_) => self.refuse(),
-        }
-    }
-
-    /// As [`Report::list`], for the values of a polynomial.
-    pub fn table<R: Additive>(
-        &mut self,
-        call: &'static str,
-        answer: Result<Poly<R>, AllocError>,
-        defined: &[R],
-    ) {
-        match answer {
-            Ok(answer) => self.values(call, answer.as_slice(), defined),
-            Err(_) => self.refuse(),
-        }
-    }
-
-    /// As [`Report::table`], with a definition that may be refused too.
-    pub fn tables<R: Additive>(
-        &mut self,
-        call: &'static str,
-        answer: Result<Poly<R>, AllocError>,
-        defined: Result<Vec<R>, AllocError>,
-    ) {
-        match defined {
-            Ok(defined) => self.table(call, answer, &defined),
-            Err(_) => self.refuse(),
-        }
-    }
-
-    /// Notes that memory was refused.
-    pub fn refuse(&mut self) {
-        self.is_refused = true;
-    }
-
     /// Notes a difference, unless one was met before.
     fn note(&mut self, call: &'static str, place: usize) {
         if self.difference.is_none() {
@@ -253,15 +138,14 @@ impl Report {
 
 /// The first place where the lists differ, or where one of them ends before the other.
 fn first_difference<R: Additive>(answer: &[R], defined: &[R]) -> Option<usize> {
-    let both = answer.len().min(defined.len());
-    for place in 0..both {
-        if answer[place] != defined[place] {
+    for (place, (left, right)) in answer.iter().zip(defined).enumerate() {
+        if *left != *right {
             return Some(place);
         }
     }
     if answer.len() == defined.len() {
         None
     } else {
-        Some(both)
+        Some(answer.len().min(defined.len()))
     }
 }

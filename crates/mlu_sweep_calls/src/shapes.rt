@@ -1,11 +1,9 @@
 //! Every shape up to a number of variables, over any field and extension of it.
 
-use crate::definitions::Compressed;
 use crate::draws::{element, elements, polynomial};
 use crate::report::{Difference, Report, Shape};
 use crate::{batches, folds, halves, kernels, points, polys, slices, splits};
 use mlu_ring::{ExtensionField, Field, Sample, SelfAlgebra};
-use mlu_test_support::plain;
 use multilinear_util::point::Point;
 use multilinear_util::poly::Poly;
 use rand_pcg::Pcg32;
@@ -33,7 +31,7 @@ pub fn sweep<F: Field + Sample, EF: ExtensionField<F> + SelfAlgebra + Sample>(
         polynomials::<F, EF>(alloc, &mut report, &mut rng, variables)?;
         tables::<F, EF>(alloc, &mut report, &mut rng, variables)?;
     }
-    report.outcome()
+    Ok(report.difference)
 }
 
 /// Compares the calls on drawn polynomials of so many variables.
@@ -44,20 +42,18 @@ fn polynomials<F: Field + Sample, EF: ExtensionField<F> + SelfAlgebra + Sample>(
     variables: usize,
 ) -> Result<(), AllocError> {
     let base: Poly<F> = polynomial(alloc, rng, variables)?;
-    let images: Vec<EF> = plain::images(alloc, base.as_slice())?;
     let ext: Poly<EF> = polynomial(alloc, rng, variables)?;
-    let polys = (&base, images.as_slice(), &ext);
     report.shape = Shape::Polynomial {
         variables,
         coordinates: 1,
     };
-    fold(alloc, report, rng, polys);
+    fold(alloc, report, rng, (&base, &ext))?;
     for coordinates in 0..=variables {
         report.shape = Shape::Polynomial {
             variables,
             coordinates,
         };
-        at_a_point(alloc, report, rng, coordinates, polys)?;
+        at_a_point(alloc, report, rng, coordinates, (&base, &ext))?;
     }
     Ok(())
 }
@@ -67,13 +63,16 @@ fn fold<F: Field + Sample, EF: ExtensionField<F> + SelfAlgebra + Sample>(
     alloc: Global,
     report: &mut Report,
     rng: &mut Pcg32,
-    polys: (&Poly<F>, &[EF], &Poly<EF>),
-) {
-    folds::into_the_extension(alloc, report, polys.0, polys.1, element::<EF>(rng));
-    folds::in_place::<EF, EF>(alloc, report, polys.2, element(rng));
+    (base, ext): (&Poly<F>, &Poly<EF>),
+) -> Result<(), AllocError> {
+    folds::into_the_extension(alloc, report, base, element::<EF>(rng))?;
+    folds::in_place::<EF, EF>(alloc, report, ext, element(rng))?;
+    folds::of_coefficients::<EF, EF>(alloc, report, ext, element(rng))?;
     report.form = " at the base";
-    folds::in_place::<F, EF>(alloc, report, polys.2, element(rng));
+    folds::in_place::<F, EF>(alloc, report, ext, element(rng))?;
+    folds::of_coefficients::<F, EF>(alloc, report, ext, element(rng))?;
     report.form = "";
+    Ok(())
 }
 
 /// Compares the calls on polynomials at a drawn point of so many coordinates, with a drawn scale.
@@ -82,15 +81,16 @@ fn at_a_point<F: Field, EF: ExtensionField<F> + Sample>(
     report: &mut Report,
     rng: &mut Pcg32,
     coordinates: usize,
-    polys: (&Poly<F>, &[EF], &Poly<EF>),
+    (base, ext): (&Poly<F>, &Poly<EF>),
 ) -> Result<(), AllocError> {
     let point = Point::new(elements(alloc, rng, coordinates)?);
     let scale = element(rng);
-    let defined = Compressed::new(alloc, point.as_slice(), scale, polys.1)?;
-    splits::compare(alloc, report, (&point, scale), polys, &defined)?;
-    polys::compress(alloc, report, (&point, scale), polys.0, &defined)?;
-    if polys.0.num_variables() == coordinates {
-        polys::evaluate(alloc, report, &point, polys)?;
+    splits::compare(alloc, report, (&point, scale), (base, ext))?;
+    polys::compress(alloc, report, (&point, scale), base)?;
+    if base.num_variables() == coordinates {
+        polys::evaluate(alloc, report, &point, (base, ext))?;
+        polys::evaluate_lanes::<F, EF>(alloc, report, &point, ext)?;
+        polys::evaluate_storages::<F, EF>(alloc, report, &point, ext)?;
     }
     Ok(())
 }
@@ -102,6 +102,8 @@ fn tables<F: Field + Sample, EF: ExtensionField<F> + Sample>(
     rng: &mut Pcg32,
     variables: usize,
 ) -> Result<(), AllocError> {
+    let point = Point::new(elements::<EF>(alloc, rng, variables)?);
+    let scale = element(rng);
     report.shape = Shape::Polynomial {
         variables,
         coordinates: variables,
@@ -109,22 +111,10 @@ fn tables<F: Field + Sample, EF: ExtensionField<F> + Sample>(
     slices::evaluate::<F, EF>(alloc, report, rng, variables)?;
     points::over_both::<F, EF>(alloc, report, rng, variables)?;
     points::steps::<EF>(alloc, report, rng, variables)?;
-    of_a_point::<F, EF>(alloc, report, rng, variables)?;
+    polys::tabulate::<F, EF>(alloc, report, &point, scale)?;
+    polys::tabulate_lanes::<F, EF>(alloc, report, &point, scale)?;
     for points in 0..=MOST_POINTS {
         batches::sum_tables::<F, EF>(alloc, report, rng, points, variables)?;
     }
     Ok(())
-}
-
-/// Compares the tables of a drawn point of so many coordinates, with a drawn scale.
-fn of_a_point<F: Field, EF: ExtensionField<F> + Sample>(
-    alloc: Global,
-    report: &mut Report,
-    rng: &mut Pcg32,
-    coordinates: usize,
-) -> Result<(), AllocError> {
-    let point: Vec<EF> = elements(alloc, rng, coordinates)?;
-    let scale = element(rng);
-    polys::tabulate(alloc, report, &point, scale)?;
-    polys::tabulate_lanes::<F, EF>(alloc, report, &point, scale)
 }

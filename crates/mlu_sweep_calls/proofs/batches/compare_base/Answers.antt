@@ -1,0 +1,11 @@
+use Rattle.std.proofs.Common.{length, refl, ap, ◌∙◌, rules}
+use Rattle.mlu_ring.proofs.Rows.{rows_of-multiple}
+use Rattle.mlu_point.proofs.Sizes.{places-of_rows}
+use Rattle.mlu_sweep_calls.proofs.batches.compare_base.Goals as goal
+
+pub new-evals-requires : goal.new-evals-requires
+new-evals-requires g c = rows_of-multiple _ c.args.batch.variables (length c.args.batch.scalars.now) c.requires.rows
+
+pub eval_eq_base_batch-requires-clause-size : goal.eval_eq_base_batch-requires-clause-size
+eval_eq_base_batch-requires-clause-size g c =
+    places-of_rows _ _ _ c.args.batch.variables (length c.args.batch.scalars.now) (ap length c.new-evals.ensures.values ∙ c.requires.rows) refl (search rules)
