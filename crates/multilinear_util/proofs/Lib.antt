@@ -5,3 +5,4 @@ pub mod Packed
 pub mod Scaled
 pub mod Splits
 pub mod Successors
+pub mod Shares

@@ -1,12 +1,13 @@
 //! Equality tables as polynomials.
-ghost use Rattle.std.specs.Prelude.{◌≡◌, ◌^◌, ◌<◌, ◌≤◌, length, map, IfOk};
+ghost use Rattle.std.specs.Prelude.{◌≡◌, ◌^◌, ◌<◌, ◌≤◌, length, map, IfOk, OnOk};
 ghost use Rattle.mlu_ring.specs.Lanes.{logical};
 ghost use Rattle.mlu_ring.specs.Successor.{next};
 ghost use Rattle.mlu_ring.specs.Tables.{weights};
 ghost use Rattle.mlu_point.specs.Rules.{next_by};
+ghost use Rattle.multilinear_util.specs.Shares.{split_by};
 
 use super::{Poly, table_length};
-use mlu_point::point::{BitOrder, Successor, fill_embedded_equality_table, fill_equality_table};
+use mlu_point::point::{BitOrder, Successor, fill_equality_table};
 use mlu_ring::{
     Additive, Algebra, ExtensionField, Field, Lanewise, PackedFieldExtension, PackedValue,
     PrimeCharacteristicRing,
@@ -111,7 +112,7 @@ fn packed_table<F: Field, EF: ExtensionField<F>>(
     embedded_table(alloc, rest, seed)
 }
 
-/// [`Poly::new_from_point`] at the images of the coordinates.
+/// [`Poly::new_from_point`] at the images of the coordinates. No place is written before its weight is made.
 #[tactic(auto, using(crate::proofs::Lengths::power_of_size, std::proofs::lemmas::Grind::common_steps))]
 fn embedded_table<B: Additive, R: Algebra<B>>(
     alloc: Global,
@@ -121,7 +122,42 @@ fn embedded_table<B: Additive, R: Algebra<B>>(
     requires { 2 ^ length point.now < 2 ^ 64 }
     ensures { IfOk result (λ poly. poly ≡ map (R.ring.product scale) (weights R.ring (map R.embed point.now))) }
 {
-    let mut evals = R::zero_vec(alloc, table_length(point.len()))?;
-    fill_embedded_equality_table(evals.as_mut_slice(), point, BitOrder::Msb, scale);
+    let mut evals = Vec::with_capacity(alloc, table_length(point.len()))?;
+    append_table(&mut evals, point, scale)?;
     Ok(Poly::new(evals))
+}
+
+/// Appends `scale` times each weight to an empty table.
+fn append_table<B: Additive, R: Algebra<B>>(
+    table: &mut Vec<R>,
+    point: &[B],
+    scale: R,
+) -> Result<(), AllocError>
+    requires { length table.old.items ≡ 0 }
+    ensures { OnOk result (table.new.items ≡ map (R.ring.product scale) (weights R.ring (map R.embed point.now))) }
+{
+    match point.split_first() {
+        None => table.push(scale)?,
+        Some((coordinate, others)) => {
+            append_table(table, others, scale)?;
+            append_shares(table, *coordinate)?;
+        }
+    }
+    Ok(())
+}
+
+/// Splits each weight by a coordinate: its share at 1 is appended, and the rest stays.
+#[inline]
+fn append_shares<B: Additive, R: Algebra<B>>(
+    table: &mut Vec<R>,
+    coordinate: B,
+) -> Result<(), AllocError>
+    ensures { OnOk result (table.new.items ≡ split_by R.ring (R.embed coordinate) table.old.items) }
+{
+    for i in 0..table.len() {
+        let share = table[i].scale(coordinate);
+        table[i] = table[i] - share;
+        table.push(share)?;
+    }
+    Ok(())
 }
