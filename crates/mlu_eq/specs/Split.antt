@@ -17,6 +17,14 @@ contents ring eq0 w =
     let n = length w in
     map (λ x. ring.product (slice_index_or eq0 (x / n) ring.zero) (slice_index_or w (x % n) ring.zero)) (range_with_len 0 (length eq0 * n))
 
+-- the same where the second half is the lanes of packed weights, joined in order
+abbrev pub packed_contents : {Q V : Type 0} → Ring V → (Q → List V) → List V → List Q → List V
+packed_contents ring lanes eq0 weights = contents ring eq0 (logical lanes weights)
+
+-- the lanes of packed weights, joined in order, each times the factor
+abbrev pub scaled_lanes : {Q V : Type 0} → Ring V → (Q → List V) → V → List Q → List V
+scaled_lanes ring lanes factor weights = map (ring.product factor) (logical lanes weights)
+
 -- run blocks of n places, from block start on
 abbrev pub run_of : {A : Type 0} → ℕ → ℕ → ℕ → List A → List A
 run_of n start run xs = take (run * n) (drop (start * n) xs)
@@ -44,7 +52,7 @@ all_but_last w = take (length w - 1) w
 
 -- the old entries plus a row for each lane of the packed weights, times the lane and the factor
 abbrev pub plus_lane_rows : {B Q V : Type 0} → Ring V → (B → V) → (Q → List V) → List V → V → List Q → List B → List V
-plus_lane_rows ring embed lanes old factor weights rows = plus_rows ring old (map (ring.product factor) (logical lanes weights)) (map embed rows)
+plus_lane_rows ring embed lanes old factor weights rows = plus_rows ring old (scaled_lanes ring lanes factor weights) (map embed rows)
 
 -- the same for each lane but the last, where a packed weight has as many lanes as the width
 abbrev pub plus_leading_rows : {B Q V : Type 0} → Ring V → (B → V) → (Q → List V) → ℕ → List V → V → List Q → List B → List V
@@ -53,7 +61,7 @@ plus_leading_rows ring embed lanes width old factor weights rows =
 
 -- entry y is the dot of row y of the entries with the table of eq0 and the lanes of packed weights, after it was moved
 abbrev pub packed_back : {Q V : Type 0} → Ring V → (Q → List V) → (List V → List V) → List V → List Q → List V → List V
-packed_back ring lanes moved eq0 weights entries = back ring (moved (contents ring eq0 (logical lanes weights))) entries
+packed_back ring lanes moved eq0 weights entries = back ring (moved (packed_contents ring lanes eq0 weights)) entries
 
 -- the double sum of the lanes of packed weights and packed entries
 abbrev pub packed_sum : {Q V : Type 0} → Ring V → (Q → List V) → List V → List Q → List Q → V
@@ -65,7 +73,7 @@ AddsScaled ring lanes scale entries old new = logical lanes new ≡ plus_scaled 
 
 -- the same of the table of eq0 and the lanes of packed weights
 abbrev pub AddsPackedTable : {Q V : Type 0} → Ring V → (Q → List V) → V → List V → List Q → List Q → List Q → Type 0
-AddsPackedTable ring lanes scale eq0 weights old new = AddsScaled ring lanes scale (contents ring eq0 (logical lanes weights)) old new
+AddsPackedTable ring lanes scale eq0 weights old new = AddsScaled ring lanes scale (packed_contents ring lanes eq0 weights) old new
 
 -- the places are whole packings, so many at most, which take few bytes
 abbrev pub FillPackings : ℕ → ℕ → ℕ → RattleType → Type 0

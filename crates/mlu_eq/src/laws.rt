@@ -2,10 +2,9 @@
 //!
 //! The functions do nothing: what they say stands in their contracts, which speak of the
 //! definitions alone.
-ghost use Rattle.std.specs.Prelude.{◌≡◌, ◌<◌, ◌+◌, ◌^◌, ◌++◌, ◌∷◌, [], ℕ, List, length, map, replicate, slice_index_or};
-ghost use Rattle.mlu_ring.specs.Sums.{product_of};
-ghost use Rattle.mlu_ring.specs.Tables.{value, vertex as vertex_at, weights, front, back, IsAffineInEach, HasAtVertices};
-ghost use Rattle.mlu_ring.specs.Tables.{powers, monomial_folds, univariate as univariate_at};
+ghost use Rattle.std.specs.Prelude.{◌≡◌, ◌<◌, ◌+◌, ◌^◌, ◌++◌, ◌∷◌, [], ℕ, length, slice_index_or};
+ghost use Rattle.mlu_ring.specs.Tables.{value, vertex as vertex_at, weights, front, back, IsAffineInEach, VerticesDetermine};
+ghost use Rattle.mlu_ring.specs.Tables.{powers, monomial_folds, univariate as polynomial, with_zeros, padded_value};
 
 use mlu_ring::{AffineInEach, PrimeCharacteristicRing};
 
@@ -38,22 +37,21 @@ pub fn joined_suffix<R: PrimeCharacteristicRing>(entries: &[R], first: &[R], res
 /// A function that is affine in each coordinate, and has entry `x` at the vertex of each index `x`,
 /// is the value of the table at every point: there is no other such function.
 pub fn unique<R: PrimeCharacteristicRing, A: AffineInEach<R>>(function: &A, entries: &[R])
-    ensures { HasAtVertices R.ring (A.coordinates function.now) (A.value_at function.now) entries.now
-        → (p : List R) → length p ≡ A.coordinates function.now → A.value_at function.now p ≡ value R.ring entries.now p }
+    ensures { VerticesDetermine R.ring (A.coordinates function.now) (A.value_at function.now) entries.now }
 {}
 
 /// For all `y` and `n` with `2^n` entries, monomial folds at `y^(2^(n - 1))`, .., `y^2`, `y` in order
 /// leave the polynomial at `y` whose coefficients are the entries.
 pub fn univariate<R: PrimeCharacteristicRing>(entries: &[R])
     ensures { (y : R) (n : ℕ) → length entries.now ≡ 2 ^ n
-        → monomial_folds R.ring entries.now (powers R.ring y n) ≡ univariate_at R.ring entries.now y ∷ [] }
+        → monomial_folds R.ring entries.now (powers R.ring y n) ≡ polynomial R.ring entries.now y ∷ [] }
 {}
 
-/// Zeros appended add variables in front: the value is that of the entries at the last coordinates,
+/// Any number of zeros appended add variables in front: the value is that of the entries at the last coordinates,
 /// times `1 - c` for each coordinate `c` before them. Asks for `2^n` entries, where `rest` has `n`
 /// coordinates.
 pub fn padded<R: PrimeCharacteristicRing>(entries: &[R], first: &[R], rest: &[R])
     requires { length entries.now ≡ 2 ^ length rest.now }
-    ensures { (zeros : ℕ) → value R.ring (entries.now ++ replicate zeros R.ring.zero) (first.now ++ rest.now)
-        ≡ R.ring.product (product_of R.ring (map (R.ring.minus R.ring.one) first.now)) (value R.ring entries.now rest.now) }
+    ensures { (k : ℕ) → value R.ring (with_zeros R.ring k entries.now) (first.now ++ rest.now)
+        ≡ padded_value R.ring entries.now first.now rest.now }
 {}

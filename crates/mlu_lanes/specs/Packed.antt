@@ -1,5 +1,5 @@
 -- Packed residues, lane by lane.
-use Rattle.std.specs.Prelude.{◌≡◌, ℕ, ◌*◌, List, slice_index_or}
+use Rattle.std.specs.Prelude.{◌≡◌, ℕ, ◌+◌, ◌*◌, List, slice_index_or}
 use Rattle.std.specs.Borrow.{Bor}
 use Rattle.mlu_lanes.specs.BabyBear.{canonical, reduced}
 use Rattle.mlu_lanes.specs.LaneRing.{values_of}
@@ -17,6 +17,10 @@ residue_at elements k = canonical (slice_index_or elements k (reduced 0))
 -- the product of those of entry k of two lists, as an integer
 abbrev pub product_at : {W : ℕ} → List (BabyBear W) → List (BabyBear W) → ℕ → ℕ
 product_at l r k = residue_at l k * residue_at r k
+
+-- the products at place j of each of four groups of four from k on, added up
+abbrev pub group_products : {W : ℕ} → List (BabyBear W) → List (BabyBear W) → ℕ → ℕ → ℕ
+group_products l r k j = product_at l r (k + j) + product_at l r (k + 4 + j) + (product_at l r (k + 8 + j) + product_at l r (k + 12 + j))
 
 -- the least residues of four elements
 abbrev pub residues : {W : ℕ} → BabyBear W × BabyBear W × BabyBear W × BabyBear W → ℕ × ℕ × ℕ × ℕ

@@ -1,6 +1,5 @@
 -- Tables in both orders.
 use Rattle.std.proofs.Common.{◌≡◌, ◌^◌, List, [], ◌∷◌, ◌++◌, map, length, set, refl, sym, ap, arith}
-use Rattle.std.proofs.lemmas.List.{map-append}
 use Rattle.mlu_ring.specs.Ring.{Ring, RingLaws}
 use Rattle.mlu_ring.proofs.Rings.{product_one}
 use Rattle.mlu_ring.proofs.Doubling.{weights-first, weights-none}
@@ -8,11 +7,6 @@ use Rattle.mlu_ring.proofs.Reversed.{lsb-last, lsb-none, table-shares}
 use Rattle.mlu_point.specs.declared.point.order.BitOrder.{BitOrder}
 use Rattle.mlu_point.specs.declared.point.order.BitOrder.TheVariants.{Msb, Lsb}
 use Rattle.mlu_point.specs.Orders.{weights_by, with_top}
-
--- the images of a point with one coordinate more
-pub map-with_top : {C R : Type 0} (f : C → R) (order : BitOrder) (c : C) (p : List C) → map f (with_top order c p) ≡ with_top order (f c) (map f p)
-map-with_top f Msb c p = refl
-map-with_top f Lsb c p = map-append f p (c ∷ [])
 
 module _ {R : Type 0} (ring : Ring R) (laws : RingLaws ring) where
   infixl 50 ◌⊕◌

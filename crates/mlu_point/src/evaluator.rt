@@ -1,4 +1,4 @@
-//! How weights, and shares of scalars, are multiplied by a coordinate of their point.
+//! How shares of scalars are multiplied by a coordinate of their point.
 ghost use Rattle.std.specs.Prelude.{◌≡◌};
 
 use mlu_ring::{Additive, Algebra, PrimeCharacteristicRing};
@@ -10,18 +10,6 @@ pub(crate) trait EqualityEvaluator<C, S: PrimeCharacteristicRing> {
     /// The product of the share and the coordinate's image.
     fn multiply(share: S, coordinate: C) -> S
         ensures { result ≡ S.ring.product share (image coordinate) };
-}
-
-/// Coordinates of the ring itself, each of which meets many weights.
-pub(crate) struct FixedCoordinates;
-
-impl<R: PrimeCharacteristicRing> EqualityEvaluator<R, R> for FixedCoordinates {
-    ghost image = { λ x. x };
-
-    #[inline(always)]
-    fn multiply(weight: R, coordinate: R) -> R {
-        weight.times_fixed(coordinate)
-    }
 }
 
 /// Coordinates of a ring that embeds in it.

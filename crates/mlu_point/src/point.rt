@@ -13,5 +13,5 @@ mod view;
 pub use order::BitOrder;
 pub use owned::Point;
 pub use rule::Successor;
-pub use table::{fill_embedded_equality_table, fill_equality_table};
+pub use table::fill_equality_table;
 pub use view::PointView;

@@ -30,7 +30,6 @@ enum FieldRow {
 /// A row over a field and an extension of it.
 enum Row {
     Field(FieldRow),
-    EmbeddedTables,
     Values,
     Batches,
 }
@@ -51,7 +50,6 @@ fn holds_over<R: Field>(alloc: Global, row: FieldRow) -> Result<bool, AllocError
 fn holds<F: Field, EF: ExtensionField<F>>(alloc: Global, row: Row) -> Result<bool, AllocError> {
     match row {
         Row::Field(row) => holds_over::<EF>(alloc, row),
-        Row::EmbeddedTables => tables::embedded::<F, EF>(alloc),
         Row::Values => evaluations::values::<F, EF>(alloc),
         Row::Batches => batches::rows::<F, EF>(alloc),
     }
@@ -115,16 +113,6 @@ fn coordinates(alloc: Global) -> Result<bool, AllocError> {
     )
 }
 
-/// Whether tables of coordinates of the base are right at the other rings and algebras over them.
-fn embedded(alloc: Global) -> Result<bool, AllocError> {
-    Ok(
-        tables::embedded::<BabyBear<4>, BabyBear<4>>(alloc)?
-            && tables::embedded::<BabyBear<8>, BabyBear<8>>(alloc)?
-            && tables::embedded::<WrappingU64<4>, WrappingU64<4>>(alloc)?
-            && tables::embedded::<BabyBear<4>, QuarticExtension<BabyBear<4>>>(alloc)?,
-    )
-}
-
 #[test]
 fn coordinates_of_points(rt: HostRuntime) -> Result<(), Fail> {
     assert!(rt; coordinates(rt.alloc())?);
@@ -146,14 +134,6 @@ fn tables_with_counted_products(rt: HostRuntime) -> Result<(), Fail> {
     assert!(rt; residues::<2>(rt.alloc(), FieldRow::CountedTables)?);
     assert!(rt; residues::<4>(rt.alloc(), FieldRow::CountedTables)?);
     assert!(rt; quartics(rt.alloc(), Row::Field(FieldRow::CountedTables))?);
-    Ok(())
-}
-
-#[test]
-fn embedded_tables(rt: HostRuntime) -> Result<(), Fail> {
-    assert!(rt; quartics(rt.alloc(), Row::EmbeddedTables)?);
-    assert!(rt; pairs(rt.alloc(), Row::EmbeddedTables)?);
-    assert!(rt; embedded(rt.alloc())?);
     Ok(())
 }
 

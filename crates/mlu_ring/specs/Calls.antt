@@ -6,6 +6,10 @@ unfoldable pub CalledInTurn : {S A : Type 0} → (S → ℕ → A → S → Type
 CalledInTurn step zero at s t = s ≡ t
 CalledInTurn {S} step (suc n) at s t = (m : S) × CalledInTurn step n at s m × step m n (at n) t
 
+-- n calls from the state s on have these answers, and lead to some state
+abbrev pub AnswersInTurn : {S A : Type 0} → (S → ℕ → A → S → Type 0) → ℕ → (ℕ → A) → S → Type 0
+AnswersInTurn {S} step n at s = (t : S) × CalledInTurn step n at s t
+
 -- n calls with the arguments 0, 1, .. are allowed from the state s on: each in every state that those before it may lead to
 abbrev pub AreAllowed : {S A : Type 0} → (S → ℕ → Type 0) → (S → ℕ → A → S → Type 0) → ℕ → S → Type 0
 AreAllowed {S} {A} allowed step n s = (at : ℕ → A) (k : ℕ) (t : S) → k < n → CalledInTurn step k at s t → allowed t k

@@ -1,8 +1,8 @@
 -- Points, indexes, weights and the value of a table at a point.
-use Rattle.std.specs.Prelude.{◌≡◌, ℕ, zero, suc, [], ◌∷◌, ◌+◌, ◌-◌, ◌*◌, ◌/◌, ◌%◌, ◌^◌, ◌<◌, List, map, length, slice_index_or, slice_set, if◌then◌else◌, ◌==◌}
+use Rattle.std.specs.Prelude.{◌≡◌, ℕ, zero, suc, [], ◌∷◌, ◌+◌, ◌-◌, ◌*◌, ◌/◌, ◌%◌, ◌^◌, ◌<◌, List, ◌++◌, map, length, replicate, slice_index_or, slice_set, if◌then◌else◌, ◌==◌}
 use Rattle.std.specs.List.{range_with_len}
 use Rattle.mlu_ring.specs.Ring.{Ring}
-use Rattle.mlu_ring.specs.Sums.{sum_below, product_below}
+use Rattle.mlu_ring.specs.Sums.{product_of, sum_below, product_below}
 
 -- bit i of index x in n variables: coordinate 0 reads the top bit
 unfoldable pub bit : ℕ → ℕ → ℕ → ℕ
@@ -44,6 +44,18 @@ IsAffineInEach {R} ring n f = (p : List R) (i : ℕ) (c : R) → length p ≡ n 
 -- at the vertex of each index x in n variables the function has entry x, or zero past the end
 abbrev pub HasAtVertices : {R : Type 0} → Ring R → ℕ → (List R → R) → List R → Type 0
 HasAtVertices ring n f e = (x : ℕ) → x < 2 ^ n → f (vertex ring n x) ≡ slice_index_or e x ring.zero
+
+-- the only function of n coordinates, affine in each, that has the entries at the vertices is the value of the table
+abbrev pub VerticesDetermine : {R : Type 0} → Ring R → ℕ → (List R → R) → List R → Type 0
+VerticesDetermine {R} ring n f e = HasAtVertices ring n f e → (p : List R) → length p ≡ n → f p ≡ value ring e p
+
+-- the entries with so many zeros after them
+abbrev pub with_zeros : {R : Type 0} → Ring R → ℕ → List R → List R
+with_zeros ring zeros e = e ++ replicate zeros ring.zero
+
+-- the value at the last coordinates, times one minus each coordinate before them
+abbrev pub padded_value : {R : Type 0} → Ring R → List R → List R → List R → R
+padded_value ring e first rest = ring.product (product_of ring (map (ring.minus ring.one) first)) (value ring e rest)
 
 -- the sum of the products of two lists, place by place
 unfoldable pub pair : {R : Type 0} → Ring R → List R → List R → R

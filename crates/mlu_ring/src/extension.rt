@@ -1,8 +1,8 @@
 //! Extensions of a field by their coefficients, and their packed forms.
 ghost use Rattle.std.specs.Prelude.{◌≡◌, ◌<◌, ℕ, List, [], ◌∷◌, length, map, replicate, slice_index_or, slice_set};
 ghost use Rattle.std.specs.Simd.Lanes.{zip2};
-ghost use Rattle.mlu_ring.specs.Calls.{AreAllowed, CalledInTurn};
-ghost use Rattle.mlu_ring.specs.Lanes.{IsLists, IsLaneByLane, logical, splat_of};
+ghost use Rattle.mlu_ring.specs.Calls.{AreAllowed, AnswersInTurn};
+ghost use Rattle.mlu_ring.specs.Lanes.{IsLists, IsLaneByLane, IsTransposed, logical, splat_of};
 
 use crate::additive::Additive;
 use crate::algebra::Algebra;
@@ -45,8 +45,8 @@ pub trait ExtensionField<F: Field>: Field + Algebra<F> {
     /// wherever those before it lead.
     final fn from_coefficients_fn<G: FnMut(usize) -> F>(mut f: G) -> Self
         requires { AreAllowed (λ s k. G.pre s k) (λ s k c t. G.step s k c t) DIMENSION f }
-        ensures { (after : G) × CalledInTurn (λ s k c t. G.step s k c t) DIMENSION
-            (λ k. slice_index_or (coefficients result) k F.ring.zero) f after }
+        ensures { AnswersInTurn (λ s k c t. G.step s k c t) DIMENSION
+            (λ k. slice_index_or (coefficients result) k F.ring.zero) f }
     {
         let mut element = Self::ZERO;
         for k in 0..Self::DIMENSION {
@@ -111,8 +111,8 @@ pub trait PackedFieldExtension<F: Field, EF: ExtensionField<F>>: PrimeCharacteri
     /// [`ExtensionField::from_coefficients_fn`], under the same condition.
     final fn from_packed_coefficients_fn<G: FnMut(usize) -> F::Packing>(mut f: G) -> Self
         requires { AreAllowed (λ s k. G.pre s k) (λ s k c t. G.step s k c t) EF.DIMENSION f }
-        ensures { (after : G) × CalledInTurn (λ s k c t. G.step s k c t) EF.DIMENSION
-            (λ k. slice_index_or (packed_coefficients result) k F.Packing.ring.zero) f after }
+        ensures { AnswersInTurn (λ s k c t. G.step s k c t) EF.DIMENSION
+            (λ k. slice_index_or (packed_coefficients result) k F.Packing.ring.zero) f }
     {
         let mut packed = Self::ZERO;
         for k in 0..EF::DIMENSION {
@@ -139,9 +139,8 @@ pub trait PackedFieldExtension<F: Field, EF: ExtensionField<F>>: PrimeCharacteri
 
     ghost embeds_packing: { (p : F.Packing) → ext_lanes (⟦<Self as Algebra<F::Packing>>⟧.embed p) ≡ map EF.embed (F.Packing.lanes p) };
 
-    ghost transposed: { (p : Self) (k c : ℕ) → k < F.Packing.WIDTH → c < EF.DIMENSION
-        → slice_index_or (EF.coefficients (slice_index_or (ext_lanes p) k EF.ring.zero)) c F.ring.zero
-        ≡ slice_index_or (F.Packing.lanes (slice_index_or (packed_coefficients p) c F.Packing.ring.zero)) k F.ring.zero };
+    ghost transposed: { IsTransposed F.Packing.WIDTH EF.DIMENSION ext_lanes EF.coefficients packed_coefficients F.Packing.lanes
+        EF.ring F.Packing.ring F.ring };
 }
 
 /// The product with a packing of the base: one product in lanes for each coefficient.

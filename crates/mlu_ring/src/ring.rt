@@ -1,6 +1,6 @@
 //! Commutative rings with one.
-ghost use Rattle.std.specs.Prelude.{◌≡◌, ℕ, ◌<◌, IfOk, IsOk, if◌then◌else◌, replicate, length, slice_index_or};
-ghost use Rattle.mlu_ring.specs.Fours.{AreLong, in_order, places};
+ghost use Rattle.std.specs.Prelude.{◌≡◌, IfOk, IsOk, if◌then◌else◌, replicate, length};
+ghost use Rattle.mlu_ring.specs.Fours.{AreLong, AreRowsTimes, AreSumsOfFour, in_order};
 ghost use Rattle.mlu_ring.specs.Tables.{pair};
 ghost use Rattle.std.specs.Vec.{vec_capacity};
 
@@ -116,9 +116,8 @@ pub trait PrimeCharacteristicRing: Additive + Mul<Self, Output = Self> {
         requires left { AreLong (length out.old) l.now.0.now l.now.1.now l.now.2.now l.now.3.now }
         requires right { AreLong (length out.old) r.now.0.now r.now.1.now r.now.2.now r.now.3.now }
         ensures long { length out.new ≡ length out.old }
-        ensures each { (k : ℕ) → k < length out.old → slice_index_or out.new k Self.ring.zero
-            ≡ pair Self.ring (places l.now.0.now l.now.1.now l.now.2.now l.now.3.now k Self.ring.zero)
-            (places r.now.0.now r.now.1.now r.now.2.now r.now.3.now k Self.ring.zero) }
+        ensures each { AreSumsOfFour Self.ring l.now.0.now l.now.1.now l.now.2.now l.now.3.now
+            r.now.0.now r.now.1.now r.now.2.now r.now.3.now out.old out.new }
     {
         for k in 0..out.len() {
             let left = (l.0[k], l.1[k], l.2[k], l.3[k]);
@@ -139,9 +138,8 @@ pub trait PrimeCharacteristicRing: Additive + Mul<Self, Output = Self> {
     )
         requires { AreLong (length out.old) l.now.0.now l.now.1.now l.now.2.now l.now.3.now }
         ensures long { length out.new ≡ length out.old }
-        ensures each { (k : ℕ) → k < length out.old → slice_index_or out.new k Self.ring.zero
-            ≡ pair Self.ring (places l.now.0.now l.now.1.now l.now.2.now l.now.3.now k Self.ring.zero)
-            (in_order column.now) }
+        ensures each { AreRowsTimes Self.ring l.now.0.now l.now.1.now l.now.2.now l.now.3.now
+            (in_order column.now) out.old out.new }
     {
         for k in 0..out.len() {
             let row = (l.0[k], l.1[k], l.2[k], l.3[k]);

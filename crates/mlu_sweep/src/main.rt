@@ -8,9 +8,12 @@
 //! [`mlu_sweep_calls::sweep`] is all of it over one ring.
 #![tactic(auto)]
 
+ghost use Rattle.std.specs.Prelude.{◌<◌};
+
 mod rings;
 
 use crate::rings::{nine_copies, no_copies, one_copy, quartics, residues, words};
+use mlu_lanes::{BabyBear, LaneWidth, Lanes, WrappingU64};
 use mlu_sweep_calls::Difference;
 use std::alloc::{AllocError, Global};
 use std::env;
@@ -49,13 +52,13 @@ fn most(rt: &HostRuntime) -> Result<usize, Stop> {
 }
 
 /// Writes the line of a ring at a lane width.
-fn tell<W: Write>(
-    out: &mut W,
+fn tell<O: Write>(
+    out: &mut O,
     ring: &str,
     width: usize,
-    difference: Option<Difference>,
+    difference: Result<Option<Difference>, AllocError>,
 ) -> Result<(), Stop> {
-    match difference {
+    match difference? {
         None => {
             writeln!(out, "{ring}, {width} lanes: all agree")?;
             Ok(())
@@ -68,25 +71,31 @@ fn tell<W: Write>(
 }
 
 /// Sweeps the rings at a lane width, a line each.
-macro_rules! sweep_rings {
-    ($width:literal, $alloc:ident, $most:ident, $out:ident) => {
-        tell($out, "residues", $width, residues::<$width>($alloc, $most)?)?;
-        tell($out, "words", $width, words::<$width>($alloc, $most)?)?;
-        tell($out, "quartics", $width, quartics::<$width>($alloc, $most)?)?;
-        tell($out, "no copies", $width, no_copies::<$width>($alloc, $most)?)?;
-        tell($out, "one copy", $width, one_copy::<$width>($alloc, $most)?)?;
-        tell($out, "nine copies", $width, nine_copies::<$width>($alloc, $most)?)?;
-    };
+fn sweep_rings<const W: usize, O: Write>(
+    alloc: Global,
+    most: usize,
+    out: &mut O,
+) -> Result<(), Stop>
+where
+    Lanes<BabyBear<W>, W>: LaneWidth<W>,
+    Lanes<WrappingU64<W>, W>: LaneWidth<W>,
+    requires { W < 32 }
+{
+    tell(out, "residues", W, residues::<W>(alloc, most))?;
+    tell(out, "words", W, words::<W>(alloc, most))?;
+    tell(out, "quartics", W, quartics::<W>(alloc, most))?;
+    tell(out, "no copies", W, no_copies::<W>(alloc, most))?;
+    tell(out, "one copy", W, one_copy::<W>(alloc, most))?;
+    tell(out, "nine copies", W, nine_copies::<W>(alloc, most))
 }
 
 /// Sweeps all rings at all lane widths.
-fn sweep_widths<W: Write>(alloc: Global, most: usize, out: &mut W) -> Result<(), Stop> {
-    sweep_rings!(1, alloc, most, out);
-    sweep_rings!(2, alloc, most, out);
-    sweep_rings!(4, alloc, most, out);
-    sweep_rings!(8, alloc, most, out);
-    sweep_rings!(16, alloc, most, out);
-    Ok(())
+fn sweep_widths<O: Write>(alloc: Global, most: usize, out: &mut O) -> Result<(), Stop> {
+    sweep_rings::<1, O>(alloc, most, out)?;
+    sweep_rings::<2, O>(alloc, most, out)?;
+    sweep_rings::<4, O>(alloc, most, out)?;
+    sweep_rings::<8, O>(alloc, most, out)?;
+    sweep_rings::<16, O>(alloc, most, out)
 }
 
 /// Sweeps up to the number of variables that the words say.

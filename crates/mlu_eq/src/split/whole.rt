@@ -1,7 +1,7 @@
 //! The split table as one list of its entries.
-ghost use Rattle.std.specs.Prelude.{◌≡◌, ◌++◌, map, OnOk};
-ghost use Rattle.mlu_ring.specs.Lanes.{logical};
-ghost use Rattle.mlu_eq.specs.Split.{contents};
+ghost use Rattle.std.specs.Prelude.{◌≡◌, ◌+◌, ◌*◌, ◌≤◌, ◌++◌, length, map};
+ghost use Rattle.std.specs.Vec.{vec_capacity, vec_len};
+ghost use Rattle.mlu_eq.specs.Split.{contents, packed_contents, scaled_lanes};
 
 use super::accumulate::{MOST_LANES, takes_elements};
 use crate::half::{EqMaybePacked, Weights};
@@ -9,18 +9,15 @@ use mlu_ring::{
     Additive, Algebra, ExtensionField, Field, Lanewise, PackedFieldExtension, PackedValue,
     PrimeCharacteristicRing,
 };
-use std::alloc::AllocError;
 
-/// Appends the entries of the split table.
-///
-/// # Errors
-/// Where there is no room for all of them, and memory is refused.
+/// Appends the entries of the split table. Asks for room for all of them.
 pub fn append_entries<F: Field, EF: ExtensionField<F>>(
-    table: &mut Vec<EF>,
     eq0: &[EF],
     eq1: &EqMaybePacked<F, EF>,
-) -> Result<(), AllocError>
-    ensures { OnOk result (table.new.items ≡ table.old.items ++ contents EF.ring eq0.now eq1.now.weights) }
+    table: &mut Vec<EF>,
+)
+    requires { vec_len table.old + length eq0.now * length eq1.now.weights ≤ vec_capacity table.old }
+    ensures { table.new.items ≡ table.old.items ++ contents EF.ring eq0.now eq1.now.weights }
 {
     match eq1.weights() {
         Weights::Scalar(weights) => push_rows(table, eq0, weights),
@@ -29,17 +26,13 @@ pub fn append_entries<F: Field, EF: ExtensionField<F>>(
 }
 
 /// Appends the weights times each entry of `eq0`, row after row.
-fn push_rows<R: PrimeCharacteristicRing>(
-    table: &mut Vec<R>,
-    eq0: &[R],
-    weights: &[R],
-) -> Result<(), AllocError>
-    ensures { OnOk result (table.new.items ≡ table.old.items ++ contents R.ring eq0.now weights.now) }
+fn push_rows<R: PrimeCharacteristicRing>(table: &mut Vec<R>, eq0: &[R], weights: &[R])
+    requires { vec_len table.old + length eq0.now * length weights.now ≤ vec_capacity table.old }
+    ensures { table.new.items ≡ table.old.items ++ contents R.ring eq0.now weights.now }
 {
     for factor in eq0 {
-        push_row(table, weights, *factor)?;
+        push_row(table, weights, *factor);
     }
-    Ok(())
 }
 
 /// Appends the lanes times each entry of `eq0`, row after row.
@@ -47,27 +40,25 @@ fn push_rows_of_lanes<F: Field, EF: ExtensionField<F>>(
     table: &mut Vec<EF>,
     eq0: &[EF],
     weights: &[EF::ExtensionPacking],
-) -> Result<(), AllocError>
-    ensures { OnOk result (table.new.items ≡ table.old.items ++ contents EF.ring eq0.now (logical EF.ExtensionPacking.ext_lanes weights.now)) }
+)
+    requires { vec_len table.old + length eq0.now * (length weights.now * F.Packing.WIDTH) ≤ vec_capacity table.old }
+    ensures { table.new.items ≡ table.old.items ++ packed_contents EF.ring EF.ExtensionPacking.ext_lanes eq0.now weights.now }
 {
     for factor in eq0 {
-        push_row_of_lanes::<F, EF>(table, weights, *factor)?;
+        push_row_of_lanes::<F, EF>(table, weights, *factor);
     }
-    Ok(())
 }
 
 /// Appends each weight, times `factor`.
-fn push_row<R: PrimeCharacteristicRing>(
-    table: &mut Vec<R>,
-    weights: &[R],
-    factor: R,
-) -> Result<(), AllocError>
-    ensures { OnOk result (table.new.items ≡ table.old.items ++ map (R.ring.product factor) weights.now) }
+fn push_row<R: PrimeCharacteristicRing>(table: &mut Vec<R>, weights: &[R], factor: R)
+    requires { vec_len table.old + length weights.now ≤ vec_capacity table.old }
+    ensures items { table.new.items ≡ table.old.items ++ map (R.ring.product factor) weights.now }
+    ensures len { vec_len table.new ≡ vec_len table.old + length weights.now }
+    ensures capacity { vec_capacity table.new ≡ vec_capacity table.old }
 {
     for weight in weights {
-        table.push(weight.times_fixed(factor))?;
+        table.push_reserved(weight.times_fixed(factor));
     }
-    Ok(())
 }
 
 /// Appends each lane, times `factor`.
@@ -75,23 +66,25 @@ fn push_row_of_lanes<F: Field, EF: ExtensionField<F>>(
     table: &mut Vec<EF>,
     weights: &[EF::ExtensionPacking],
     factor: EF,
-) -> Result<(), AllocError>
-    ensures { OnOk result (table.new.items ≡ table.old.items ++ map (EF.ring.product factor) (logical EF.ExtensionPacking.ext_lanes weights.now)) }
+)
+    requires { vec_len table.old + length weights.now * F.Packing.WIDTH ≤ vec_capacity table.old }
+    ensures items { table.new.items ≡ table.old.items ++ scaled_lanes EF.ring EF.ExtensionPacking.ext_lanes factor weights.now }
+    ensures len { vec_len table.new ≡ vec_len table.old + length weights.now * F.Packing.WIDTH }
+    ensures capacity { vec_capacity table.new ≡ vec_capacity table.old }
 {
     for weight in weights {
         let scaled = <EF::ExtensionPacking as Algebra<EF>>::scale(*weight, factor);
-        push_lanes::<F, EF>(table, scaled)?;
+        push_lanes::<F, EF>(table, scaled);
     }
-    Ok(())
 }
 
 /// Appends the lanes.
 #[inline]
-fn push_lanes<F: Field, EF: ExtensionField<F>>(
-    table: &mut Vec<EF>,
-    lanes: EF::ExtensionPacking,
-) -> Result<(), AllocError>
-    ensures { OnOk result (table.new.items ≡ table.old.items ++ EF.ExtensionPacking.ext_lanes lanes) }
+fn push_lanes<F: Field, EF: ExtensionField<F>>(table: &mut Vec<EF>, lanes: EF::ExtensionPacking)
+    requires { vec_len table.old + F.Packing.WIDTH ≤ vec_capacity table.old }
+    ensures items { table.new.items ≡ table.old.items ++ EF.ExtensionPacking.ext_lanes lanes }
+    ensures len { vec_len table.new ≡ vec_len table.old + F.Packing.WIDTH }
+    ensures capacity { vec_capacity table.new ≡ vec_capacity table.old }
 {
     if !takes_elements::<F, EF>() {
         return push_each_lane::<F, EF>(table, lanes);
@@ -99,18 +92,29 @@ fn push_lanes<F: Field, EF: ExtensionField<F>>(
     let mut places = [EF::ZERO; MOST_LANES];
     let elements = &mut places[..F::Packing::WIDTH];
     lanes.store_ext(elements);
-    table.extend_from_slice(elements)
+    push_all(table, elements);
 }
 
 /// Appends the lanes, one by one.
-fn push_each_lane<F: Field, EF: ExtensionField<F>>(
-    table: &mut Vec<EF>,
-    lanes: EF::ExtensionPacking,
-) -> Result<(), AllocError>
-    ensures { OnOk result (table.new.items ≡ table.old.items ++ EF.ExtensionPacking.ext_lanes lanes) }
+fn push_each_lane<F: Field, EF: ExtensionField<F>>(table: &mut Vec<EF>, lanes: EF::ExtensionPacking)
+    requires { vec_len table.old + F.Packing.WIDTH ≤ vec_capacity table.old }
+    ensures items { table.new.items ≡ table.old.items ++ EF.ExtensionPacking.ext_lanes lanes }
+    ensures len { vec_len table.new ≡ vec_len table.old + F.Packing.WIDTH }
+    ensures capacity { vec_capacity table.new ≡ vec_capacity table.old }
 {
     for k in 0..F::Packing::WIDTH {
-        table.push(lanes.ext_lane(k))?;
+        table.push_reserved(lanes.ext_lane(k));
     }
-    Ok(())
+}
+
+/// Appends the elements.
+fn push_all<T: Copy>(table: &mut Vec<T>, elements: &[T])
+    requires { vec_len table.old + length elements.now ≤ vec_capacity table.old }
+    ensures items { table.new.items ≡ table.old.items ++ elements.now }
+    ensures len { vec_len table.new ≡ vec_len table.old + length elements.now }
+    ensures capacity { vec_capacity table.new ≡ vec_capacity table.old }
+{
+    for element in elements {
+        table.push_reserved(*element);
+    }
 }

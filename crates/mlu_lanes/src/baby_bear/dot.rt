@@ -2,7 +2,7 @@
 ghost use Rattle.std.specs.Prelude.{◌≡◌, ℕ, ◌+◌, ◌*◌, ◌^◌, ◌<◌, ◌≤◌, length, slice_index, take};
 ghost use Rattle.mlu_ring.specs.Tables.{pair};
 ghost use Rattle.mlu_lanes.specs.BabyBear.{baby_bear_ring};
-ghost use Rattle.mlu_lanes.specs.Packed.{product_at};
+ghost use Rattle.mlu_lanes.specs.Packed.{group_products, product_at};
 
 use super::BabyBear;
 use super::columns::reduce_halves;
@@ -58,9 +58,7 @@ fn dot_of_groups<const W: usize>(l: &[BabyBear<W>], r: &[BabyBear<W>], groups: u
 fn group_products_at<const W: usize>(l: &[BabyBear<W>], r: &[BabyBear<W>], k: usize) -> Simd<u64, 4>
     requires left { k + 15 < length l.now }
     requires right { k + 15 < length r.now }
-    ensures value { (j : ℕ) → j < 4
-        → slice_index result j ≡ product_at l.now r.now (k + j) + product_at l.now r.now (k + 4 + j)
-        + (product_at l.now r.now (k + 8 + j) + product_at l.now r.now (k + 12 + j)) }
+    ensures value { (j : ℕ) → j < 4 → slice_index result j ≡ group_products l.now r.now k j }
     ensures small { (j : ℕ) → j < 4 → slice_index result j < 2 ^ 64 }
 {
     let low = wide_sums(products_at(l, r, k), products_at(l, r, k + 4));

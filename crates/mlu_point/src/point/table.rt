@@ -5,22 +5,17 @@ ghost use Rattle.mlu_point.specs.Orders.{weights_by, with_top};
 ghost use Rattle.mlu_point.specs.Vertices.{IsWeightAt};
 
 use super::order::BitOrder;
-use crate::evaluator::{EmbeddedCoordinates, EqualityEvaluator, FixedCoordinates};
-use mlu_ring::{Additive, Algebra, PrimeCharacteristicRing};
+use mlu_ring::PrimeCharacteristicRing;
 
 /// Splits each weight of `low` by a coordinate: its share at 1 goes to `high`, and the rest stays.
 #[inline]
-fn split_by_coordinate<C: Copy, R: PrimeCharacteristicRing, E: EqualityEvaluator<C, R>>(
-    low: &mut [R],
-    high: &mut [R],
-    coordinate: C,
-)
+fn split_by_coordinate<R: PrimeCharacteristicRing>(low: &mut [R], high: &mut [R], coordinate: R)
     requires { length low.old ≡ length high.old }
-    ensures upper { high.new ≡ map (λ w. R.ring.product w (E.image coordinate)) low.old }
-    ensures lower { low.new ≡ map (λ w. R.ring.minus w (R.ring.product w (E.image coordinate))) low.old }
+    ensures upper { high.new ≡ map (λ w. R.ring.product w coordinate) low.old }
+    ensures lower { low.new ≡ map (λ w. R.ring.minus w (R.ring.product w coordinate)) low.old }
 {
     for i in 0..low.len() {
-        let share = E::multiply(low[i], coordinate);
+        let share = low[i].times_fixed(coordinate);
         high[i] = share;
         low[i] = low[i] - share;
     }
@@ -48,39 +43,13 @@ pub fn fill_equality_table<R: PrimeCharacteristicRing>(
     requires { length out.old ≡ 2 ^ length coords.now }
     ensures { out.new ≡ map (λ w. R.ring.product scale w) (weights_by order R.ring coords.now) }
 {
-    fill_table::<R, R, FixedCoordinates>(out, coords, order, scale)
-}
-
-/// As [`fill_equality_table`], at the images of the coordinates, as packed tables have them.
-pub fn fill_embedded_equality_table<B: Additive, R: Algebra<B>>(
-    out: &mut [R],
-    coords: &[B],
-    order: BitOrder,
-    scale: R,
-)
-    requires { length out.old ≡ 2 ^ length coords.now }
-    ensures { out.new ≡ map (λ w. R.ring.product scale w) (weights_by order R.ring (map R.embed coords.now)) }
-{
-    fill_table::<B, R, EmbeddedCoordinates>(out, coords, order, scale)
-}
-
-/// [`fill_equality_table`], at the images of the coordinates by the evaluator `E`.
-fn fill_table<C: Copy, R: PrimeCharacteristicRing, E: EqualityEvaluator<C, R>>(
-    out: &mut [R],
-    coords: &[C],
-    order: BitOrder,
-    scale: R,
-)
-    requires { length out.old ≡ 2 ^ length coords.now }
-    ensures { out.new ≡ map (λ w. R.ring.product scale w) (weights_by order R.ring (map E.image coords.now)) }
-{
     match split_top(coords, order) {
         None => out[0] = scale,
         Some((coordinate, others)) => {
             let half = out.len() / 2;
             let (low, high) = out.split_at_mut(half);
-            fill_table::<C, R, E>(low, others, order, scale);
-            split_by_coordinate::<C, R, E>(low, high, *coordinate);
+            fill_equality_table(low, others, order, scale);
+            split_by_coordinate(low, high, *coordinate);
         }
     }
 }

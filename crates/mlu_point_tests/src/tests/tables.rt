@@ -1,8 +1,8 @@
 //! The weights of points.
 ghost use Rattle.std.specs.Prelude.{◌<◌, ◌≤◌, length};
 
-use mlu_point::point::{BitOrder, Point, PointView, fill_embedded_equality_table};
-use mlu_ring::{Additive, Algebra, Counter, Field, Unmetered};
+use mlu_point::point::{BitOrder, Point, PointView};
+use mlu_ring::{Counter, Field, Unmetered};
 use mlu_test_support::numbers::{are, element, elements};
 use std::alloc::{AllocError, Global};
 
@@ -110,14 +110,4 @@ fn fills<R: Field>(alloc: Global, order: BitOrder, weights: &[i32]) -> Result<bo
     point.fill_equality_table_in_chunks(alloc, in_two, order, element(5), 1, &mut meter)?;
     let both = are(&serial, weights) && are(&chunks, weights);
     Ok(both && meter.made() == 6 && meter.groups() == 0)
-}
-
-/// The tables of (2, 3) with scale 5, in both orders, from coordinates of the base.
-pub fn embedded<B: Additive, R: Algebra<B>>(alloc: Global) -> Result<bool, AllocError> {
-    let point: Vec<B> = elements(alloc, &[2, 3])?;
-    let mut out: Vec<R> = elements(alloc, &[9, 9, 9, 9])?;
-    fill_embedded_equality_table(&mut out, &point, BitOrder::Msb, element(5));
-    let msb = are(&out, &[10, -15, -20, 30]);
-    fill_embedded_equality_table(&mut out, &point, BitOrder::Lsb, element(5));
-    Ok(msb && are(&out, &[10, -20, -15, 30]))
 }

@@ -84,7 +84,7 @@ impl<F: Field, EF: ExtensionField<F>> SplitEq<F, EF> {
     {
         let mut entries = Vec::with_capacity(alloc, table_length(self.num_variables()))?;
         let (eq0, eq1) = self.halves();
-        split::append_entries(&mut entries, eq0, eq1)?;
+        split::append_entries(eq0, eq1, &mut entries);
         Ok(Poly::new(entries))
     }
 }
