@@ -11,9 +11,9 @@
 //! Sizes and statuses of each call stand in `bindings/c/mlu.h`.
 #![tactic(auto)]
 
-ghost use Rattle.mlu_ring.specs.Tables.{value};
+ghost use Rattle.mlu_ring.specs.Tables.{first_folded, last_folded, value};
 ghost use Rattle.mlu_words.specs.Calls.{embedded_next_value, embedded_prefix, embedded_suffix};
-ghost use Rattle.mlu_words.specs.Calls.{embedded_value, first_folded, last_folded, scaled_weights};
+ghost use Rattle.mlu_words.specs.Calls.{embedded_value, scaled_weights};
 ghost use Rattle.mlu_words.specs.Exports.{BatchesExtension, CompressesBase, EvaluatesBase, EvaluatesExtension};
 ghost use Rattle.mlu_words.specs.Exports.{FoldsExtension, ProvesExtension, TabulatesExtension, VerifiesExtension};
 ghost use Rattle.mlu_words.specs.Outcomes.{Answers, Judges};

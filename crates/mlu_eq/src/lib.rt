@@ -9,9 +9,8 @@
 //! [`half`] makes it. The kernels over both halves stand in [`split`]: dots, accumulations, and the
 //! compressions of a table.
 //!
-//! The calls over slices are stated by the value, `front` and `back` of `mlu_ring`, and by
-//! `folded_at`, a short name for one of these. Nothing takes memory but the calls that are handed an
-//! allocator.
+//! The calls over slices are stated by the value, `front` and `back` of `mlu_ring`. Nothing takes memory but
+//! the calls that are handed an allocator.
 #![tactic(auto)]
 
 mod evaluation;

@@ -5,9 +5,9 @@ ghost use Rattle.std.specs.Prelude.{◌≡◌, ◌+◌, ◌<◌, ◌≤◌, ◌/
 ghost use Rattle.std.specs.Mem.{type_size};
 ghost use Rattle.std.specs.Vec.{vec_capacity};
 ghost use Rattle.mlu_ring.specs.Lanes.{logical};
-ghost use Rattle.mlu_ring.specs.Tables.{front, line};
+ghost use Rattle.mlu_ring.specs.Tables.{first_folded, front, line};
 ghost use Rattle.mlu_kernel.specs.declared.small.TheConstants.{SMALL_BYTES};
-ghost use Rattle.mlu_eq.specs.Combine.{folded_at, interpolated};
+ghost use Rattle.mlu_eq.specs.Combine.{interpolated};
 ghost use Rattle.std.specs.Simd.Lanes.{zip2};
 
 use crate::line::{
@@ -69,7 +69,7 @@ pub fn fold_prefix_to_packed<F: Field, EF: ExtensionField<F>>(
 ) -> Result<Vec<EF::ExtensionPacking>, AllocError>
     requires { (length entries.now / 2) % F.Packing.WIDTH ≡ 0 }
     ensures folded { IfOk result (λ half. logical EF.ExtensionPacking.ext_lanes half.items
-        ≡ folded_at EF.ring r (map EF.embed entries.now)) }
+        ≡ first_folded EF.ring r (map EF.embed entries.now)) }
     ensures exact { IfOk result (λ folded. vec_capacity folded ≡ length entries.now / 2 / F.Packing.WIDTH) }
     ensures few { length entries.now < 2 → IsOk result }
 {
@@ -91,7 +91,7 @@ fn fold_group_at<F: Field, EF: ExtensionField<F>>(
 ) -> EF::ExtensionPacking
     requires { start + F.Packing.WIDTH ≤ length entries.now / 2 }
     ensures { EF.ExtensionPacking.ext_lanes result
-        ≡ take F.Packing.WIDTH (drop start (folded_at EF.ring r (map EF.embed entries.now))) }
+        ≡ take F.Packing.WIDTH (drop start (first_folded EF.ring r (map EF.embed entries.now))) }
 {
     let end = start + <F::Packing as PackedValue>::WIDTH;
     let (low, high) = entries.split_at(entries.len() / 2);

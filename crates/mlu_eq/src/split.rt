@@ -1,8 +1,8 @@
 //! A table in two halves: `eq0`, a slice, and `eq1`, scalar or packed weights.
 //!
 //! Entry `x` of the table is `eq0[x / n] * w[x % n]`, where `w` are the `n` weights of `eq1`. None of the
-//! calls takes memory: the suffix compressions write the whole table to the stack, where it has at most 128
-//! packed entries.
+//! calls takes memory: dots and compressions keep up to 1024 elements or packed places on the stack, where
+//! these are small ([`mlu_kernel::small`]).
 
 pub(crate) mod accumulate;
 mod constants;

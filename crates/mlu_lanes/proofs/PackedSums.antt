@@ -10,7 +10,7 @@ use Rattle.mlu_lanes.specs.LaneRing.{lane_ring, packed_of, same_values}
 use Rattle.mlu_lanes.specs.Packed.{residue}
 use Rattle.mlu_lanes.specs.declared.baby_bear.BabyBear.{BabyBear}
 use Rattle.mlu_lanes.specs.declared.baby_bear.TheConstants.{MODULUS}
-use Rattle.mlu_lanes.specs.declared.baby_bear.reduce_each.TheConstants.{FOLD}
+use Rattle.mlu_lanes.specs.declared.baby_bear.reduce_each.TheConstants.{RADIX}
 use Rattle.mlu_lanes.specs.declared.lanes.Lanes.{Lanes}
 use Rattle.mlu_lanes.proofs.Prepared.{prepared_product, prepared_once}
 use Rattle.mlu_lanes.proofs.OneLane.{lane_is_ring_map, lane_of_four_products}
@@ -54,7 +54,7 @@ module _ {W : ℕ} where
 
   -- the products with a packed value whose lanes were multiplied by 2^32
   pub product_of_prepared_lanes : (a p product : Lanes (BabyBear W) W)
-      → ((j : ℕ) → j < W → residue product j * 2 ^ 32 % MODULUS ≡ residue a j * (residue p j * FOLD % MODULUS) % MODULUS)
+      → ((j : ℕ) → j < W → residue product j * 2 ^ 32 % MODULUS ≡ residue a j * (residue p j * RADIX % MODULUS) % MODULUS)
       → product ≡ (lane_ring W (baby_bear_ring W)).product a p
   product_of_prepared_lanes a p product each =
       same_lanes product _ (λ j below.
@@ -62,7 +62,7 @@ module _ {W : ℕ} where
       prepared_product (get_or a.values j (reduced 0)) (get_or p.values j (reduced 0)) _ _ refl (each j below) ∙ sym (by_lane.product a p))
 
   -- the products with an element that was multiplied by 2^32
-  pub product_of_prepared : (a product : Lanes (BabyBear W) W) (c : BabyBear W) (f : ℕ) → f ≡ canonical c * FOLD % MODULUS
+  pub product_of_prepared : (a product : Lanes (BabyBear W) W) (c : BabyBear W) (f : ℕ) → f ≡ canonical c * RADIX % MODULUS
       → ((j : ℕ) → j < W → residue product j * 2 ^ 32 % MODULUS ≡ residue a j * f % MODULUS)
       → product ≡ (lane_ring W (baby_bear_ring W)).product a (splat_of W (packed_of W (reduced 0)) c)
   product_of_prepared a product c f is each =
@@ -75,7 +75,7 @@ module _ {W : ℕ} where
 
   -- the sum of four products with elements that were multiplied by 2^32
   pub sum_of_prepared : (a b c d sum : Lanes (BabyBear W) W) (p q r s : BabyBear W) (fp fq fr fs : ℕ)
-      → fp ≡ canonical p * FOLD % MODULUS → fq ≡ canonical q * FOLD % MODULUS → fr ≡ canonical r * FOLD % MODULUS → fs ≡ canonical s * FOLD % MODULUS
+      → fp ≡ canonical p * RADIX % MODULUS → fq ≡ canonical q * RADIX % MODULUS → fr ≡ canonical r * RADIX % MODULUS → fs ≡ canonical s * RADIX % MODULUS
       → ((j : ℕ) → j < W → residue sum j * 2 ^ 32 % MODULUS ≡ (residue a j * fp + residue b j * fq + (residue c j * fr + residue d j * fs)) % MODULUS)
       → sum ≡ pair (lane_ring W (baby_bear_ring W)) (a ∷ b ∷ c ∷ d ∷ []) (map (splat_of W (packed_of W (reduced 0))) (p ∷ q ∷ r ∷ s ∷ []))
   sum_of_prepared a b c d sum p q r s fp fq fr fs ep eq er es each =

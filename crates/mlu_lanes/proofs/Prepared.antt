@@ -6,13 +6,13 @@ use Rattle.mlu_ring.proofs.Pairs.{pair-scaled_four}
 use Rattle.mlu_lanes.specs.BabyBear.{baby_bear_ring, baby_bear_laws, canonical, same_canonical, reduced}
 use Rattle.mlu_lanes.specs.declared.baby_bear.BabyBear.{BabyBear}
 use Rattle.mlu_lanes.specs.declared.baby_bear.TheConstants.{MODULUS}
-use Rattle.mlu_lanes.specs.declared.baby_bear.reduce_each.TheConstants.{FOLD}
+use Rattle.mlu_lanes.specs.declared.baby_bear.reduce_each.TheConstants.{RADIX}
 use Rattle.mlu_lanes.proofs.ResidueSums.{reduced_once}
 
 module _ {W : ℕ} where
   -- 2^32 and its inverse
   abbrev radix : BabyBear W
-  radix = reduced FOLD
+  radix = reduced RADIX
 
   abbrev inverse : BabyBear W
   inverse = reduced 943718400
@@ -30,7 +30,7 @@ module _ {W : ℕ} where
   cancel_radix x y e = sym (unscaled x) ∙ ap (λ t. (baby_bear_ring W).product t inverse) e ∙ unscaled y
 
   -- a product, from its product with 2^32, where the second factor was multiplied by that
-  pub prepared_product : (a p x : BabyBear W) (fp : ℕ) → fp ≡ canonical p * FOLD % MODULUS → canonical x * 2 ^ 32 % MODULUS ≡ canonical a * fp % MODULUS → x ≡ (baby_bear_ring W).product a p
+  pub prepared_product : (a p x : BabyBear W) (fp : ℕ) → fp ≡ canonical p * RADIX % MODULUS → canonical x * 2 ^ 32 % MODULUS ≡ canonical a * fp % MODULUS → x ≡ (baby_bear_ring W).product a p
   prepared_product a p x fp ep is =
       let ring = baby_bear_ring W in
       let scaled : canonical (ring.product x radix) ≡ canonical x * 2 ^ 32 % MODULUS = mul-mod_second (canonical x) (2 ^ 32) MODULUS in
@@ -38,7 +38,7 @@ module _ {W : ℕ} where
 
   -- the sum of four products, from its product with 2^32, where the factors were multiplied by that
   pub prepared_once : (a b c d p q r s x : BabyBear W) (fp fq fr fs : ℕ)
-      → fp ≡ canonical p * FOLD % MODULUS → fq ≡ canonical q * FOLD % MODULUS → fr ≡ canonical r * FOLD % MODULUS → fs ≡ canonical s * FOLD % MODULUS
+      → fp ≡ canonical p * RADIX % MODULUS → fq ≡ canonical q * RADIX % MODULUS → fr ≡ canonical r * RADIX % MODULUS → fs ≡ canonical s * RADIX % MODULUS
       → canonical x * 2 ^ 32 % MODULUS ≡ (canonical a * fp + canonical b * fq + (canonical c * fr + canonical d * fs)) % MODULUS
       → x ≡ pair (baby_bear_ring W) (a ∷ b ∷ c ∷ d ∷ []) (p ∷ q ∷ r ∷ s ∷ [])
   prepared_once a b c d p q r s x fp fq fr fs ep eq er es is =

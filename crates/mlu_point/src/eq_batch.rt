@@ -13,9 +13,8 @@ mod fours;
 mod lanes;
 mod shares;
 
-use crate::evaluator::EmbeddedCoordinates;
 use crate::point::{BitOrder, fill_equality_table};
-use evaluator::{ExtFieldEvaluator, PackedEvaluator};
+use evaluator::{BaseFieldEvaluator, ExtFieldEvaluator, PackedEvaluator};
 use fours::FOUR;
 use lanes::{LOG_FOUR, add_chunk};
 use mlu_ring::place_by_place::clear;
@@ -69,7 +68,7 @@ pub fn eval_eq_base_batch<F: Field, EF: ExtensionField<F>, const INITIALIZED: bo
     ensures left { out.new ≡ after_batch EF.ring (is_ok result) INITIALIZED out.old (map EF.embed evals.entry.values.now) scalars.now }
     ensures no_points { length scalars.now ≡ 0 → IsOk result }
 {
-    evaluate::<F, EF, F, EmbeddedCoordinates, INITIALIZED>(alloc, evals, out, scalars, 0)
+    evaluate::<F, EF, F, BaseFieldEvaluator, INITIALIZED>(alloc, evals, out, scalars, 0)
 }
 
 /// As [`eval_eq_batch`], with the output in `2^log_chunks` chunks that are made one after the
@@ -108,7 +107,7 @@ pub fn eval_eq_base_batch_in_chunks<F: Field, EF: ExtensionField<F>, const INITI
     ensures left { out.new ≡ after_batch EF.ring (is_ok result) INITIALIZED out.old (map EF.embed evals.entry.values.now) scalars.now }
     ensures no_points { length scalars.now ≡ 0 → IsOk result }
 {
-    evaluate::<F, EF, F, EmbeddedCoordinates, INITIALIZED>(alloc, evals, out, scalars, log_chunks)
+    evaluate::<F, EF, F, BaseFieldEvaluator, INITIALIZED>(alloc, evals, out, scalars, log_chunks)
 }
 
 /// The batch of one point, written: its table times the scalar, filled in place.

@@ -7,5 +7,4 @@
 #![tactic(auto)]
 
 pub mod eq_batch;
-mod evaluator;
 pub mod point;

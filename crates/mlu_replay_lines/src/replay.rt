@@ -3,7 +3,9 @@ ghost use Rattle.std.specs.Prelude.{◌≡◌, ◌≢◌, ◌+◌, ◌<◌, ◌�
 ghost use Rattle.std.specs.Io.KnownBytes.{Appends, IsAtEnd};
 ghost use Rattle.std.specs.IoError.{error_kind};
 ghost use Rattle.std.specs.Io.BufRead.{DropsThrough, first_piece};
-ghost use Rattle.mlu_replay_lines.specs.Counts.{Grows, GrowsTo, IsNoCase, MoreDiffer, MoreUnknown, TellsDiffering, TellsUnknown, case_line, count_line, disagreeing, first_word, line_count, unknown_line};
+ghost use Rattle.mlu_replay_lines.specs.Counts.{Grows, GrowsTo, IsNoCase, MoreDiffer, MoreUnknown};
+ghost use Rattle.mlu_replay_lines.specs.Counts.{TellsDiffering, TellsUnknown, case_line, count_line, disagreeing};
+ghost use Rattle.mlu_replay_lines.specs.Counts.{first_word, line_count, unknown_line};
 ghost use Rattle.mlu_replay_lines.specs.Faults.{reason_text};
 
 use crate::fault::{Fault, Reason};

@@ -77,6 +77,14 @@ back ring w e =
     let t = length w in
     map (λ y. sum_below ring t (λ z. ring.product (slice_index_or w z ring.zero) (slice_index_or e (y * t + z) ring.zero))) (range_with_len 0 (length e / t))
 
+-- the table with its first variable at r
+abbrev pub first_folded : {R : Type 0} → Ring R → R → List R → List R
+first_folded ring r e = front ring (line ring r) e
+
+-- the table with its last variable at r
+abbrev pub last_folded : {R : Type 0} → Ring R → R → List R → List R
+last_folded ring r e = back ring (line ring r) e
+
 -- the element to the power k
 abbrev pub power : {R : Type 0} → Ring R → R → ℕ → R
 power ring y zero = ring.one

@@ -113,11 +113,10 @@ pub trait PrimeCharacteristicRing: Additive + Mul<Self, Output = Self> {
         l: &(&[Self], &[Self], &[Self], &[Self]),
         r: &(&[Self], &[Self], &[Self], &[Self]),
     )
-        requires left { AreLong (length out.old) l.now.0.now l.now.1.now l.now.2.now l.now.3.now }
-        requires right { AreLong (length out.old) r.now.0.now r.now.1.now r.now.2.now r.now.3.now }
+        requires left { AreLong (length out.old) l.now }
+        requires right { AreLong (length out.old) r.now }
         ensures long { length out.new ≡ length out.old }
-        ensures each { AreSumsOfFour Self.ring l.now.0.now l.now.1.now l.now.2.now l.now.3.now
-            r.now.0.now r.now.1.now r.now.2.now r.now.3.now out.old out.new }
+        ensures each { AreSumsOfFour Self.ring l.now r.now out.old out.new }
     {
         for k in 0..out.len() {
             let left = (l.0[k], l.1[k], l.2[k], l.3[k]);
@@ -136,10 +135,9 @@ pub trait PrimeCharacteristicRing: Additive + Mul<Self, Output = Self> {
         l: &(&[Self], &[Self], &[Self], &[Self]),
         column: &(Self, Self, Self, Self),
     )
-        requires { AreLong (length out.old) l.now.0.now l.now.1.now l.now.2.now l.now.3.now }
+        requires { AreLong (length out.old) l.now }
         ensures long { length out.new ≡ length out.old }
-        ensures each { AreRowsTimes Self.ring l.now.0.now l.now.1.now l.now.2.now l.now.3.now
-            (in_order column.now) out.old out.new }
+        ensures each { AreRowsTimes Self.ring l.now (in_order column.now) out.old out.new }
     {
         for k in 0..out.len() {
             let row = (l.0[k], l.1[k], l.2[k], l.3[k]);

@@ -11,7 +11,7 @@ use Rattle.mlu_ring.proofs.SumsBelow.{sum_below-same, sum_below-add, sum_below-s
 use Rattle.mlu_ring.proofs.Totals.{sum_below-more}
 use Rattle.mlu_ring.proofs.Univariate.{length-front}
 use Rattle.mlu_ring.proofs.Folds.{front_of_two-entry}
-use Rattle.mlu_sumcheck.specs.Rounds.{lower, step, round, AddsUpTo}
+use Rattle.mlu_sumcheck.specs.Rounds.{lower, rise, round, AddsUpTo}
 
 halved : (n h : ℕ) → n ≡ h + h → n / 2 ≡ h
 halved n h e = omega arith
@@ -40,8 +40,8 @@ module _ {R : Type 0} (ring : Ring R) where
   abbrev pub linear_term : ℕ → List R → List R → ℕ → R
   linear_term h w e z = (get_or w z 𝟘 ⊗ (get_or e (h + z) 𝟘 ⊖ get_or e z 𝟘)) ⊕ ((get_or w (h + z) 𝟘 ⊖ get_or w z 𝟘) ⊗ get_or e z 𝟘)
 
-  abbrev pub step_term : ℕ → List R → List R → ℕ → R
-  step_term h w e z = (get_or w (h + z) 𝟘 ⊖ get_or w z 𝟘) ⊗ (get_or e (h + z) 𝟘 ⊖ get_or e z 𝟘)
+  abbrev pub rise_term : ℕ → List R → List R → ℕ → R
+  rise_term h w e z = (get_or w (h + z) 𝟘 ⊖ get_or w z 𝟘) ⊗ (get_or e (h + z) 𝟘 ⊖ get_or e z 𝟘)
 
 module _ {R : Type 0} (ring : Ring R) (laws : RingLaws ring) where
   infixl 50 ◌⊕◌
@@ -52,8 +52,8 @@ module _ {R : Type 0} (ring : Ring R) (laws : RingLaws ring) where
   lower-entry : (e : List R) (h x : ℕ) → length e / 2 ≡ h → x < h → get_or (lower e) x 𝟘 ≡ get_or e x 𝟘
   lower-entry e h x is below = ap (λ k. get_or (take k e) x 𝟘) is ∙ get_or-take h e x 𝟘 below
 
-  step-entry : (e : List R) (h x : ℕ) → length e ≡ h + h → x < h → get_or (step ring e) x 𝟘 ≡ get_or e (h + x) 𝟘 ⊖ get_or e x 𝟘
-  step-entry e h x size below =
+  rise-entry : (e : List R) (h x : ℕ) → length e ≡ h + h → x < h → get_or (rise ring e) x 𝟘 ≡ get_or e (h + x) 𝟘 ⊖ get_or e x 𝟘
+  rise-entry e h x size below =
       let is = halved (length e) h size in
       let first : x < length (drop h e) = omega (arith, length-drop h e, size, below) in
       let second : x < length (take h e) = omega (arith, length-take-le h e (omega (arith, size)), below) in
@@ -65,8 +65,8 @@ module _ {R : Type 0} (ring : Ring R) (laws : RingLaws ring) where
   length-lower : (e : List R) (h : ℕ) → length e ≡ h + h → length (lower e) ≡ h
   length-lower e h size = ap (λ k. length (take k e)) (halved (length e) h size) ∙ length-take-le h e (omega (arith, size))
 
-  length-step : (e : List R) (h : ℕ) → length e ≡ h + h → length (step ring e) ≡ h
-  length-step e h size =
+  length-rise : (e : List R) (h : ℕ) → length e ≡ h + h → length (rise ring e) ≡ h
+  length-rise e h size =
       let high : length (drop h e) ≡ h = omega (arith, length-drop h e, size) in
       let low = length-take-le h e (omega (arith, size)) in
       ap (λ k. length (zip2 ring.minus (drop k e) (take k e))) (halved (length e) h size)
@@ -88,22 +88,22 @@ module _ {R : Type 0} (ring : Ring R) (laws : RingLaws ring) where
         pair-terms (lower w) (lower e) h (low_term ring w e) (length-lower w h size_w)
         (λ x q. both _ _ _ _ (lower-entry w h x (halved (length w) h size_w) q) (lower-entry e h x (halved (length e) h size_e) q))
 
-    linear-sum : pair ring (lower w) (step ring e) ⊕ pair ring (step ring w) (lower e) ≡ sum_below ring h (linear_term ring h w e)
+    linear-sum : pair ring (lower w) (rise ring e) ⊕ pair ring (rise ring w) (lower e) ≡ sum_below ring h (linear_term ring h w e)
     linear-sum =
         let first = λ (z : ℕ). get_or w z 𝟘 ⊗ (get_or e (h + z) 𝟘 ⊖ get_or e z 𝟘) in
         let second = λ (z : ℕ). (get_or w (h + z) 𝟘 ⊖ get_or w z 𝟘) ⊗ get_or e z 𝟘 in
-        ap (λ t. t ⊕ pair ring (step ring w) (lower e))
-        (pair-terms (lower w) (step ring e) h first (length-lower w h size_w)
-        (λ x q. both _ _ _ _ (lower-entry w h x (halved (length w) h size_w) q) (step-entry e h x size_e q)))
+        ap (λ t. t ⊕ pair ring (rise ring w) (lower e))
+        (pair-terms (lower w) (rise ring e) h first (length-lower w h size_w)
+        (λ x q. both _ _ _ _ (lower-entry w h x (halved (length w) h size_w) q) (rise-entry e h x size_e q)))
         ∙ ap (λ t. sum_below ring h first ⊕ t)
-        (pair-terms (step ring w) (lower e) h second (length-step w h size_w)
-        (λ x q. both _ _ _ _ (step-entry w h x size_w q) (lower-entry e h x (halved (length e) h size_e) q)))
+        (pair-terms (rise ring w) (lower e) h second (length-rise w h size_w)
+        (λ x q. both _ _ _ _ (rise-entry w h x size_w q) (lower-entry e h x (halved (length e) h size_e) q)))
         ∙ sym (sum_below-sum ring laws h first second)
 
-    pub quadratic-sum : pair ring (step ring w) (step ring e) ≡ sum_below ring h (step_term ring h w e)
+    pub quadratic-sum : pair ring (rise ring w) (rise ring e) ≡ sum_below ring h (rise_term ring h w e)
     quadratic-sum =
-        pair-terms (step ring w) (step ring e) h (step_term ring h w e) (length-step w h size_w)
-        (λ x q. both _ _ _ _ (step-entry w h x size_w q) (step-entry e h x size_e q))
+        pair-terms (rise ring w) (rise ring e) h (rise_term ring h w e) (length-rise w h size_w)
+        (λ x q. both _ _ _ _ (rise-entry w h x size_w q) (rise-entry e h x size_e q))
 
     pair-sum : pair ring w e ≡ sum_below ring h (low_term ring w e) ⊕ sum_below ring h (high_term ring h w e)
     pair-sum = pair-terms w e (h + h) (low_term ring w e) size_w (λ x q. refl) ∙ sum_below-add ring laws h h (low_term ring w e)
@@ -122,7 +122,7 @@ module _ {R : Type 0} (ring : Ring R) (laws : RingLaws ring) where
       ∙ ap (λ t. b ⊕ t) (sum_negation ring laws a) ∙ sum_zero ring laws b
 
   -- the product of the entries at 1 by the coefficients of that place
-  high_term-is : (h : ℕ) (w e : List R) (z : ℕ) → high_term ring h w e z ≡ low_term ring w e z ⊕ (linear_term ring h w e z ⊕ step_term ring h w e z)
+  high_term-is : (h : ℕ) (w e : List R) (z : ℕ) → high_term ring h w e z ≡ low_term ring w e z ⊕ (linear_term ring h w e z ⊕ rise_term ring h w e z)
   high_term-is h w e z =
       let a = get_or w z 𝟘 in
       let b = get_or w (h + z) 𝟘 in
@@ -130,11 +130,11 @@ module _ {R : Type 0} (ring : Ring R) (laws : RingLaws ring) where
       let y = get_or e (h + z) 𝟘 in
       both b (a ⊕ (b ⊖ a)) y (x ⊕ (y ⊖ x)) (sym (step_back a b)) (sym (step_back x y)) ∙ product_of_steps a (b ⊖ a) x (y ⊖ x)
 
-  high-sum : (h : ℕ) (w e : List R) → sum_below ring h (high_term ring h w e) ≡ sum_below ring h (low_term ring w e) ⊕ (sum_below ring h (linear_term ring h w e) ⊕ sum_below ring h (step_term ring h w e))
+  high-sum : (h : ℕ) (w e : List R) → sum_below ring h (high_term ring h w e) ≡ sum_below ring h (low_term ring w e) ⊕ (sum_below ring h (linear_term ring h w e) ⊕ sum_below ring h (rise_term ring h w e))
   high-sum h w e =
-      sum_below-same ring h (high_term ring h w e) (λ z. low_term ring w e z ⊕ (linear_term ring h w e z ⊕ step_term ring h w e z)) (λ z q. high_term-is h w e z)
-      ∙ sum_below-sum ring laws h (low_term ring w e) (λ z. linear_term ring h w e z ⊕ step_term ring h w e z)
-      ∙ ap (λ t. sum_below ring h (low_term ring w e) ⊕ t) (sum_below-sum ring laws h (linear_term ring h w e) (step_term ring h w e))
+      sum_below-same ring h (high_term ring h w e) (λ z. low_term ring w e z ⊕ (linear_term ring h w e z ⊕ rise_term ring h w e z)) (λ z q. high_term-is h w e z)
+      ∙ sum_below-sum ring laws h (low_term ring w e) (λ z. linear_term ring h w e z ⊕ rise_term ring h w e z)
+      ∙ ap (λ t. sum_below ring h (low_term ring w e) ⊕ t) (sum_below-sum ring laws h (linear_term ring h w e) (rise_term ring h w e))
 
   -- one more place
   pub sum-more : (n : ℕ) (f : ℕ → R) (old term new : R) → old ≡ sum_below ring n f → term ≡ f n → new ≡ old ⊕ term → new ≡ sum_below ring (n + 1) f
@@ -146,30 +146,30 @@ module _ {R : Type 0} (ring : Ring R) (laws : RingLaws ring) where
   low-more w e n a x old term new at_a at_x product so_far is = sum-more n (low_term ring w e) old term new so_far (product ∙ both _ _ _ _ at_a at_x) is
 
   -- and of that of the products of steps
-  pub step-more : (h : ℕ) (w e : List R) (n : ℕ) (a b x y s t old term new : R) → a ≡ get_or w n 𝟘 → b ≡ get_or w (h + n) 𝟘 → x ≡ get_or e n 𝟘 → y ≡ get_or e (h + n) 𝟘
-      → s ≡ b ⊖ a → t ≡ y ⊖ x → term ≡ s ⊗ t → old ≡ sum_below ring n (step_term ring h w e) → new ≡ old ⊕ term → new ≡ sum_below ring (n + 1) (step_term ring h w e)
-  step-more h w e n a b x y s t old term new at_a at_b at_x at_y at_s at_t product so_far is =
-      let weight_step = at_s ∙ ap (λ v. v ⊖ a) at_b ∙ ap (λ v. get_or w (h + n) 𝟘 ⊖ v) at_a in
-      let step = at_t ∙ ap (λ v. v ⊖ x) at_y ∙ ap (λ v. get_or e (h + n) 𝟘 ⊖ v) at_x in
-      sum-more n (step_term ring h w e) old term new so_far (product ∙ both _ _ _ _ weight_step step) is
+  pub rise-more : (h : ℕ) (w e : List R) (n : ℕ) (a b x y s t old term new : R) → a ≡ get_or w n 𝟘 → b ≡ get_or w (h + n) 𝟘 → x ≡ get_or e n 𝟘 → y ≡ get_or e (h + n) 𝟘
+      → s ≡ b ⊖ a → t ≡ y ⊖ x → term ≡ s ⊗ t → old ≡ sum_below ring n (rise_term ring h w e) → new ≡ old ⊕ term → new ≡ sum_below ring (n + 1) (rise_term ring h w e)
+  rise-more h w e n a b x y s t old term new at_a at_b at_x at_y at_s at_t product so_far is =
+      let weight_rise = at_s ∙ ap (λ v. v ⊖ a) at_b ∙ ap (λ v. get_or w (h + n) 𝟘 ⊖ v) at_a in
+      let rise = at_t ∙ ap (λ v. v ⊖ x) at_y ∙ ap (λ v. get_or e (h + n) 𝟘 ⊖ v) at_x in
+      sum-more n (rise_term ring h w e) old term new so_far (product ∙ both _ _ _ _ weight_rise rise) is
 
   -- the round from the three sums that one pass takes
   pub round-sums : (w e : List R) (h : ℕ) (low high quadratic linear : R) → length w ≡ h + h → length e ≡ h + h
-      → low ≡ sum_below ring h (low_term ring w e) → high ≡ sum_below ring h (high_term ring h w e) → quadratic ≡ sum_below ring h (step_term ring h w e)
+      → low ≡ sum_below ring h (low_term ring w e) → high ≡ sum_below ring h (high_term ring h w e) → quadratic ≡ sum_below ring h (rise_term ring h w e)
       → linear ≡ (high ⊖ low) ⊖ quadratic → low ∷ linear ∷ quadratic ∷ [] ≡ round ring w e
   round-sums w e h low high quadratic linear size_w size_e at_low at_high at_quadratic at_linear =
       let c = sum_below ring h (low_term ring w e) in
       let l = sum_below ring h (linear_term ring h w e) in
-      let q = sum_below ring h (step_term ring h w e) in
+      let q = sum_below ring h (rise_term ring h w e) in
       let rest : high ⊖ low ≡ l ⊕ q = ap (λ t. t ⊖ low) (at_high ∙ high-sum h w e) ∙ ap (λ t. (c ⊕ (l ⊕ q)) ⊖ t) at_low ∙ less_itself c (l ⊕ q) in
       let middle : linear ≡ l = at_linear ∙ ap (λ t. t ⊖ quadratic) (rest ∙ laws.sum_comm l q) ∙ ap (λ t. (q ⊕ l) ⊖ t) at_quadratic ∙ less_itself q l in
       ap (λ t. t ∷ linear ∷ quadratic ∷ []) (at_low ∙ sym (constant-sum w e h size_w size_e))
       ∙ ap (λ t. pair ring (lower w) (lower e) ∷ t ∷ quadratic ∷ []) (middle ∙ sym (linear-sum w e h size_w size_e))
-      ∙ ap (λ t. pair ring (lower w) (lower e) ∷ (pair ring (lower w) (step ring e) ⊕ pair ring (step ring w) (lower e)) ∷ t ∷ []) (at_quadratic ∙ sym (quadratic-sum w e h size_w size_e))
+      ∙ ap (λ t. pair ring (lower w) (lower e) ∷ (pair ring (lower w) (rise ring e) ⊕ pair ring (rise ring w) (lower e)) ∷ t ∷ []) (at_quadratic ∙ sym (quadratic-sum w e h size_w size_e))
 
   -- and from the pair of the tables in place of the sum at 1
   pub round-of_claim : (w e : List R) (h : ℕ) (low quadratic claim linear : R) → length w ≡ h + h → length e ≡ h + h
-      → low ≡ sum_below ring h (low_term ring w e) → quadratic ≡ sum_below ring h (step_term ring h w e) → claim ≡ pair ring w e
+      → low ≡ sum_below ring h (low_term ring w e) → quadratic ≡ sum_below ring h (rise_term ring h w e) → claim ≡ pair ring w e
       → linear ≡ ((claim ⊖ low) ⊖ low) ⊖ quadratic → low ∷ linear ∷ quadratic ∷ [] ≡ round ring w e
   round-of_claim w e h low quadratic claim linear size_w size_e at_low at_quadratic at_claim at_linear =
       let c = sum_below ring h (low_term ring w e) in
@@ -214,8 +214,8 @@ module _ {R : Type 0} (ring : Ring R) (laws : RingLaws ring) where
   pub round-adds_up : (w e : List R) (h : ℕ) → length w ≡ h + h → length e ≡ h + h → AddsUpTo ring (pair ring w e) (round ring w e)
   round-adds_up w e h size_w size_e =
       let c = pair ring (lower w) (lower e) in
-      let l = pair ring (lower w) (step ring e) ⊕ pair ring (step ring w) (lower e) in
-      let q = pair ring (step ring w) (step ring e) in
+      let l = pair ring (lower w) (rise ring e) ⊕ pair ring (rise ring w) (lower e) in
+      let q = pair ring (rise ring w) (rise ring e) in
       ap (λ t. t ⊕ univariate ring (round ring w e) 𝟙) (univariate-at_zero c l q)
       ∙ ap (λ t. c ⊕ t) (univariate-at_one c l q)
       ∙ ap (λ t. t ⊕ (c ⊕ (l ⊕ q))) (constant-sum w e h size_w size_e)
@@ -233,15 +233,15 @@ module _ {R : Type 0} (ring : Ring R) (laws : RingLaws ring) where
   univariate-round w e h r size_w size_e =
       let c = low_term ring w e in
       let l = linear_term ring h w e in
-      let q = step_term ring h w e in
+      let q = rise_term ring h w e in
       let half_w = halved (length w) h size_w in
       let half_e = halved (length e) h size_e in
       let at = λ (v : List R) (z : ℕ). ((𝟙 ⊖ r) ⊗ get_or v z 𝟘) ⊕ (r ⊗ get_or v (h + z) 𝟘) in
       let entry : (v : List R) (z : ℕ) → length v / 2 ≡ h → z < h → get_or (front ring (line ring r) v) z 𝟘 ≡ get_or v z 𝟘 ⊕ (r ⊗ (get_or v (h + z) 𝟘 ⊖ get_or v z 𝟘)) =
       λ v z is below. front_of_two-entry ring laws (𝟙 ⊖ r) r v z (omega (arith, is, below)) ∙ ap (λ k. ((𝟙 ⊖ r) ⊗ get_or v z 𝟘) ⊕ (r ⊗ get_or v (k + z) 𝟘)) is ∙ sym (line_by_step ring laws (get_or v z 𝟘) (get_or v (h + z) 𝟘) r) in
-      univariate-three (pair ring (lower w) (lower e)) (pair ring (lower w) (step ring e) ⊕ pair ring (step ring w) (lower e)) (pair ring (step ring w) (step ring e)) r
-      ∙ ap (λ t. t ⊕ (((pair ring (lower w) (step ring e) ⊕ pair ring (step ring w) (lower e)) ⊗ r) ⊕ (pair ring (step ring w) (step ring e) ⊗ (r ⊗ r)))) (constant-sum w e h size_w size_e)
-      ∙ ap (λ t. sum_below ring h c ⊕ ((t ⊗ r) ⊕ (pair ring (step ring w) (step ring e) ⊗ (r ⊗ r)))) (linear-sum w e h size_w size_e)
+      univariate-three (pair ring (lower w) (lower e)) (pair ring (lower w) (rise ring e) ⊕ pair ring (rise ring w) (lower e)) (pair ring (rise ring w) (rise ring e)) r
+      ∙ ap (λ t. t ⊕ (((pair ring (lower w) (rise ring e) ⊕ pair ring (rise ring w) (lower e)) ⊗ r) ⊕ (pair ring (rise ring w) (rise ring e) ⊗ (r ⊗ r)))) (constant-sum w e h size_w size_e)
+      ∙ ap (λ t. sum_below ring h c ⊕ ((t ⊗ r) ⊕ (pair ring (rise ring w) (rise ring e) ⊗ (r ⊗ r)))) (linear-sum w e h size_w size_e)
       ∙ ap (λ t. sum_below ring h c ⊕ ((sum_below ring h l ⊗ r) ⊕ (t ⊗ (r ⊗ r)))) (quadratic-sum w e h size_w size_e)
       ∙ ap (λ t. sum_below ring h c ⊕ (t ⊕ (sum_below ring h q ⊗ (r ⊗ r)))) (sym (sum_below-product_right ring laws h r l))
       ∙ ap (λ t. sum_below ring h c ⊕ (sum_below ring h (λ z. l z ⊗ r) ⊕ t)) (sym (sum_below-product_right ring laws h (r ⊗ r) q))

@@ -11,12 +11,12 @@ abbrev pub lower : {R : Type 0} → List R → List R
 lower e = take (length e / 2) e
 
 -- those with the first variable at 1, less those with it at 0
-abbrev pub step : {R : Type 0} → Ring R → List R → List R
-step ring e = zip2 ring.minus (drop (length e / 2) e) (lower e)
+abbrev pub rise : {R : Type 0} → Ring R → List R → List R
+rise ring e = zip2 ring.minus (drop (length e / 2) e) (lower e)
 
 -- the coefficients of 1, X and X^2 of the sum of the products of both tables, place by place, with the first variable at X
 abbrev pub round : {R : Type 0} → Ring R → List R → List R → List R
-round ring w e = pair ring (lower w) (lower e) ∷ ring.sum (pair ring (lower w) (step ring e)) (pair ring (step ring w) (lower e)) ∷ pair ring (step ring w) (step ring e) ∷ []
+round ring w e = pair ring (lower w) (lower e) ∷ ring.sum (pair ring (lower w) (rise ring e)) (pair ring (rise ring w) (lower e)) ∷ pair ring (rise ring w) (rise ring e) ∷ []
 
 -- the table with its first variables at the challenges, folded at each in order
 abbrev pub folded : {R : Type 0} → Ring R → List R → List R → List R

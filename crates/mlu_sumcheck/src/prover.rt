@@ -3,7 +3,7 @@ ghost use Rattle.std.specs.Prelude.{◌≡◌, ◌+◌, ◌/◌, ◌^◌, ◌<�
 ghost use Rattle.std.specs.Vec.{vec_capacity};
 ghost use Rattle.mlu_ring.specs.Tables.{front, line, pair};
 ghost use Rattle.multilinear_util.specs.Split.{split_entries};
-ghost use Rattle.mlu_sumcheck.specs.Rounds.{lower, step, round, rounds_of, AddsUpTo, BeginWithSum, EndWithProduct, Fit};
+ghost use Rattle.mlu_sumcheck.specs.Rounds.{lower, rise, round, rounds_of, AddsUpTo, BeginWithSum, EndWithProduct, Fit};
 
 use crate::verifier::value_at;
 use mlu_ring::{Additive, ExtensionField, Field, PrimeCharacteristicRing, SelfAlgebra};
@@ -49,7 +49,7 @@ pub fn prove_round_of_claim<EF: PrimeCharacteristicRing>(
     requires variable { 1 < length poly.now }
     ensures constant { slice_index_or result 0 EF.ring.zero ≡ pair EF.ring (lower weights.now) (lower poly.now) }
     ensures quadratic { slice_index_or result 2 EF.ring.zero
-        ≡ pair EF.ring (step EF.ring weights.now) (step EF.ring poly.now) }
+        ≡ pair EF.ring (rise EF.ring weights.now) (rise EF.ring poly.now) }
     ensures adds_up { AddsUpTo EF.ring claim result }
     ensures round { claim ≡ pair EF.ring weights.now poly.now → result ≡ round EF.ring weights.now poly.now }
 {
@@ -86,7 +86,7 @@ fn coefficients_of_claim<R: PrimeCharacteristicRing>(
     requires sizes { length poly.now ≡ length weights.now }
     requires halves { length poly.now ≡ length poly.now / 2 + length poly.now / 2 }
     ensures constant { result.0 ≡ pair R.ring (lower weights.now) (lower poly.now) }
-    ensures quadratic { result.2 ≡ pair R.ring (step R.ring weights.now) (step R.ring poly.now) }
+    ensures quadratic { result.2 ≡ pair R.ring (rise R.ring weights.now) (rise R.ring poly.now) }
     ensures adds_up { AddsUpTo R.ring claim (result.0 ∷ result.1 ∷ result.2 ∷ []) }
     ensures round { claim ≡ pair R.ring weights.now poly.now
         → result.0 ∷ result.1 ∷ result.2 ∷ [] ≡ round R.ring weights.now poly.now }

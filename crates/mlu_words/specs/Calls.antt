@@ -4,7 +4,7 @@ use Rattle.std.specs.List.{range_with_len}
 use Rattle.mlu_ring.specs.Matrices.{row_at}
 use Rattle.mlu_ring.specs.Ring.{Ring}
 use Rattle.mlu_ring.specs.Successor.{next}
-use Rattle.mlu_ring.specs.Tables.{back, front, line, pair, value, weights}
+use Rattle.mlu_ring.specs.Tables.{first_folded, last_folded, pair, value, weights}
 use Rattle.mlu_point.specs.declared.point.order.BitOrder.{BitOrder}
 use Rattle.mlu_point.specs.Batches.{with_batch}
 use Rattle.mlu_point.specs.Orders.{weights_by}
@@ -56,14 +56,6 @@ Folds b fold r old new = Outcome
     (FoldOperands b old r)
     (λ _. new ≡ words_of b (fold (b.element r) (elements_of b old)) ++ drop (length old / 2) old)
     (new ≡ old)
-
--- the table with its first variable at r
-abbrev pub first_folded : {B : Type 0} → Ring B → B → List B → List B
-first_folded ring r e = front ring (line ring r) e
-
--- the table with its last variable at r
-abbrev pub last_folded : {B : Type 0} → Ring B → B → List B → List B
-last_folded ring r e = back ring (line ring r) e
 
 -- the table with the variable at r
 abbrev pub folded : {B : Type 0} → Variables → Ring B → B → List B → List B

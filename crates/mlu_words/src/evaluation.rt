@@ -17,7 +17,9 @@ use std::alloc::{AllocError, Global};
 /// The entries that the weights of a point meet: that of the same vertex, or of the next one.
 #[derive(Clone, Copy, Debug, PartialEq, Eq)]
 pub enum Vertices {
+    /// That of the same vertex.
     Own,
+    /// That of the next one; the last vertex is its own next.
     Next,
 }
 

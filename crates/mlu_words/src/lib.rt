@@ -5,8 +5,6 @@
 //! of its coefficients; a table or a point is the words of its elements, one after the other. A call
 //! tests the size of each operand, then whether the sizes fit one another, then whether the words
 //! that it reads are residues. It writes at the end alone, so an output is as before where there is a fault.
-//!
-//! `mlu_c` has the functions for C, and stands on this crate: it has tests, so it is proved twice.
 #![tactic(auto)]
 
 mod batches;

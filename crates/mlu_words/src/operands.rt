@@ -11,7 +11,9 @@ use std::alloc::{AllocError, Global};
 /// Which variables of a table a call sets.
 #[derive(Clone, Copy, Debug, PartialEq, Eq)]
 pub enum Variables {
+    /// The first ones, a prefix.
     First,
+    /// The last ones, a suffix.
     Last,
 }
 
@@ -27,7 +29,7 @@ pub fn table<T: Words>(alloc: Global, words: &[u32]) -> Result<Poly<T>, AllocErr
     Ok(Poly::new(read(alloc, words)?))
 }
 
-/// A table and a point. Asks for the words of a power of two of elements as the table's.
+/// A table and a point. Asks that the table's words are those of a power of two of elements.
 ///
 /// # Errors
 /// Where memory is refused.

@@ -1,6 +1,8 @@
 //! The calls over the integers modulo 2013265921 and their extension of degree four.
 //!
-//! Each names its rings once, as all that these stand on is proved anew at each such name.
+//! Each names its rings once, as all that these stand on is proved anew at each such name. What a call asks of
+//! its words is tested, by the definition that its clause names, and what it answers where they do not fit is the
+//! first [`Fault`]; the outputs are then as before. Elements of the extension are four words each.
 ghost use Rattle.mlu_ring.specs.Tables.{value};
 ghost use Rattle.mlu_words.specs.Calls.{embedded_compressed, embedded_value_at, folded, scaled_weights};
 ghost use Rattle.mlu_words.specs.Exports.{BatchesExtension, CompressesBase, EvaluatesBase, EvaluatesExtension};
@@ -20,7 +22,7 @@ type Element = BabyBear<8>;
 type Extension = QuarticExtension<Element>;
 
 /// The value of a table over the base field at a point of the extension, or the sum of the weight at the point
-/// of each vertex times the value at the next one.
+/// of each vertex times the value at the next one: 2^n words, a point of n elements, one element.
 pub fn eval_base(
     alloc: Global,
     vertices: Vertices,
@@ -33,14 +35,15 @@ pub fn eval_base(
     evaluation::eval_base::<Element, Extension>(alloc, vertices, table, point, out)
 }
 
-/// The value of a table over the extension at a point.
+/// The value of a table over the extension at a point: 2^n elements, n elements, one element.
 pub fn eval_ext(alloc: Global, table: &[u32], point: &[u32], out: &mut [u32]) -> Result<(), Fault>
     ensures { EvaluatesExtension value table.now point.now out.old out.new result }
 {
     evaluation::eval_ext::<Element, Extension>(alloc, table, point, out)
 }
 
-/// The weights of all vertices at a point of the extension, in the order, each times a scale.
+/// The weights of all vertices at a point of the extension of n elements, in the order, each times a scale: 2^n
+/// elements.
 pub fn equality_weights(
     alloc: Global,
     order: BitOrder,
@@ -54,7 +57,8 @@ pub fn equality_weights(
 }
 
 /// The sum of the equality tables of points, each times a scalar, written to the output or added to it, all of
-/// the extension. Each column of the values is a point and each row a variable.
+/// the extension. Each column of the values is a point, for each scalar one, and each of the n rows a variable;
+/// the output has 2^n elements.
 pub fn eval_eq_batch(
     alloc: Global,
     adds: bool,
@@ -67,7 +71,8 @@ pub fn eval_eq_batch(
     batches::eval_eq_batch::<Element, Extension>(alloc, adds, values, scalars, out)
 }
 
-/// A table over the extension with its first or its last variable at `r`, in the first half of its words.
+/// A table over the extension with its first or its last variable at `r`, in the first half of its words. The
+/// other half is as before. Asks for at least one variable.
 pub fn fix_var_mut(
     alloc: Global,
     variable: Variables,
@@ -79,7 +84,8 @@ pub fn fix_var_mut(
     folds::fix_var_mut::<Extension>(alloc, variable, table, r)
 }
 
-/// A table over the base field with its first or its last variables at a point of the extension, times a scale.
+/// A table over the base field with its first or its last variables at a point of the extension, times a scale:
+/// 2^n words, k elements, 2^(n - k) elements.
 pub fn compress(
     alloc: Global,
     variables: Variables,
@@ -108,7 +114,8 @@ pub fn sumcheck_run(
     sumcheck::sumcheck_run::<Element, Extension>(alloc, table, point, challenges, rounds, claims)
 }
 
-/// Whether the rounds fit a claim at the challenges: the last claim where they do.
+/// Whether the rounds fit a claim at the challenges: the last claim is written where they do. As many rounds, of
+/// three elements each, as challenges.
 pub fn sumcheck_verify(
     alloc: Global,
     claim: &[u32],

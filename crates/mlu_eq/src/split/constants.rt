@@ -10,7 +10,7 @@ ghost use Rattle.mlu_eq.specs.Split.{constants, AreConstants};
 use mlu_kernel::small::{SMALL_BYTES, is_small};
 use mlu_ring::{Additive, ExtensionField, Field, row_of};
 
-/// The coefficients that begin at zero for short rows.
+/// The size of the array for rows of at most so many weights, which takes less time to fill with zeros.
 pub(super) const FEW_CONSTANTS: usize = 128;
 
 /// The most coefficients that are read to the stack.

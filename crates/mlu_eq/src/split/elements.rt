@@ -19,7 +19,8 @@ const FEWEST_ELEMENTS: usize = 128;
 /// The most elements of a row that are written to the stack.
 const MOST_ELEMENTS: usize = 1024;
 
-const _: () = prove!(MOST_ELEMENTS * SMALL_BYTES < 2 << 20);
+// weights and a row at a time
+const _: () = prove!(2 * MOST_ELEMENTS * (SMALL_BYTES - 1) < 2 << 20);
 
 /// Whether dots of elements are ahead of those of lanes, for rows as long as so many packed weights,
 /// with room on the stack.

@@ -17,10 +17,11 @@ use mlu_ring::{
     PrimeCharacteristicRing, row_of,
 };
 
-/// The packed places that begin at zero for a short output.
+/// The size of the array for outputs of at most so many packed places: a short one takes less time to fill
+/// with zeros.
 const FEW_PLACES: usize = 8;
 
-/// The packed places that begin at zero for most outputs.
+/// The size of the next longer one, enough for most outputs.
 const MANY_PLACES: usize = 128;
 
 /// With more packed places than these an output is added to entry by entry.

@@ -47,7 +47,7 @@ pub trait PrefixCompression<F: Field, EF: ExtensionField<F>, T: PrimeCharacteris
     ghost lane_by_lane: { IsLaneByLane width lanes T.ring EF.ring };
 }
 
-/// The sum of the rows, each times its weight.
+/// By the table as it is.
 pub struct Plain;
 
 impl<F: Field, EF: ExtensionField<F>> PrefixCompression<F, EF, EF> for Plain {
@@ -79,7 +79,7 @@ impl<F: Field, EF: ExtensionField<F>> PrefixCompression<F, EF, EF> for Plain {
     ghost lane_by_lane = { one_lane EF.ring };
 }
 
-/// The same in packed form.
+/// By the table as it is, to packed places.
 pub struct ToPacked;
 
 impl<F: Field, EF: ExtensionField<F>> PrefixCompression<F, EF, EF::ExtensionPacking> for ToPacked {
@@ -109,7 +109,7 @@ impl<F: Field, EF: ExtensionField<F>> PrefixCompression<F, EF, EF::ExtensionPack
     ghost lane_by_lane = { EF.ExtensionPacking.lane_by_lane };
 }
 
-/// The sum of the rows, each times the weight of the place before its own.
+/// By the table shifted by one place: zero, and then all entries but the last.
 pub struct Shifted;
 
 impl<F: Field, EF: ExtensionField<F>> PrefixCompression<F, EF, EF> for Shifted {

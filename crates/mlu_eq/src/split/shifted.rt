@@ -1,4 +1,4 @@
-//! The split table moved up by one place: each entry, or row, meets the weight of the place before
+//! The split table shifted by one place: each entry, or row, meets the weight of the place before
 //! its own, and the first one meets none.
 //!
 //! Row `j` of the table, with `n` weights, so meets the places from `j * n + 1` on: whole rows go
@@ -61,7 +61,7 @@ pub fn compress_prefix_shifted_into<F: Field, EF: ExtensionField<F>>(
     add_leading_rows(eq1, *last, out, &entries[border..]);
 }
 
-/// Writes the dot of the moved weights with each row.
+/// Writes the dot of the shifted weights with each row.
 ///
 /// All rows but the last are read on by a place, so that they meet whole packed weights. The last
 /// weight then meets the first entry of the next row, and their product is taken away again.

@@ -22,16 +22,16 @@ use mlu_ring::{
 /// With more packed entries than these a split table is not joined.
 const MOST_JOINED: usize = 128;
 
-/// A compression of rows, each to one entry: what the table's weights are before a row meets them.
+/// A compression of rows, each to one entry, by the table as it is or shifted by one place.
 trait SuffixCompression<F: Field, EF: ExtensionField<F>> {
     ghost moved: { List EF → List EF };
 
-    /// The dot of the moved table with one row. Asks for as many entries as the table has.
+    /// The dot of the table with one row. Asks for as many entries as the table has.
     fn row_dot(eq0: &[EF], eq1: &EqMaybePacked<F, EF>, row: &[F]) -> EF
         requires { length row.now ≡ length eq0.now * length eq1.now.weights }
         ensures { result ≡ pair EF.ring (moved (contents EF.ring eq0.now eq1.now.weights)) (map EF.embed row.now) };
 
-    /// Writes the dot of the moved weights with each row. What `out` held does not count.
+    /// Writes the dot of the weights with each row. What `out` held does not count.
     ///
     /// Asks for weights, and for as many rows as `out` has places.
     fn write_row_dots(weights: &[EF::ExtensionPacking], out: &mut [EF], entries: &[F])
@@ -94,7 +94,7 @@ pub fn compress_suffix_into<F: Field, EF: ExtensionField<F>>(
     compress_rows::<F, EF, Plain>(eq0, eq1, out, entries);
 }
 
-/// Writes the dot of the moved table with each row of `entries`. What `out` held does not
+/// Writes the dot of the table with each row of `entries`. What `out` held does not
 /// count.
 ///
 /// Asks for a first half that is not empty, and for as many rows as `out` has places.
@@ -111,7 +111,7 @@ pub fn compress_suffix_shifted_into<F: Field, EF: ExtensionField<F>>(
     compress_rows::<F, EF, Shifted>(eq0, eq1, out, entries);
 }
 
-/// Writes the dot of the moved table with each row: of the joined table where it is small, else
+/// Writes the dot of the table with each row: of the joined table where it is small, else
 /// half by half.
 fn compress_rows<F: Field, EF: ExtensionField<F>, S: SuffixCompression<F, EF>>(
     eq0: &[EF],

@@ -6,7 +6,7 @@ ghost use Rattle.mlu_ring.specs.Tables.{pair};
 ghost use Rattle.mlu_lanes.specs.BabyBear.{baby_bear_ring, canonical, reduced};
 ghost use Rattle.mlu_lanes.specs.Packed.{residue_at};
 
-use super::reduce_each::{FOLD, reduce_each_once, reduce_each_word};
+use super::reduce_each::{RADIX, reduce_each_once, reduce_each_word};
 use super::rows::{elements_of, row_scaled, unreduced_rows};
 use super::{BabyBear, MODULUS};
 use crate::coefficients::Coefficients;
@@ -18,7 +18,8 @@ use std::simd::prelude::*;
 /// The products that are summed before they are split into halves.
 const GROUP: usize = 4;
 
-/// The most places whose products a pair of halves adds up.
+/// The most places whose products a pair of halves adds up, 2^30: a half grows by less than 2^32 for four
+/// of them, and stays below 2^62.
 const MOST_PLACES: usize = 1073741824;
 
 /// Coefficient `a` of each element of `l` as a row, times the matrix whose rows are the four
@@ -139,6 +140,6 @@ pub fn reduce_halves(lows: Simd<u64, 4>, highs: Simd<u64, 4>) -> Simd<u32, 4>
     requires { (j : ℕ) → j < 4 → slice_index lows j ≤ 2 ^ 62 }
     ensures { (j : ℕ) → j < 4 → slice_index result j ≡ (slice_index lows j + 2 ^ 32 * slice_index highs j) % MODULUS }
 {
-    let folded = wide_products(widened(reduce_each_word(highs)), wide_all(FOLD));
+    let folded = wide_products(widened(reduce_each_word(highs)), wide_all(RADIX));
     reduce_each_word(wide_sums(folded, lows))
 }

@@ -14,7 +14,8 @@ use std::simd::prelude::*;
 /// The places whose products are summed in four lanes before they are split into halves.
 const GROUP: usize = 16;
 
-/// The most groups that a pair of halves adds up.
+/// The most groups that a pair of halves adds up, 2^30: a half grows by less than 2^32 for each, and stays
+/// below 2^62.
 const MOST_GROUPS: usize = 1073741824;
 
 /// The sum of the products `l[i] * r[i]`. Asks for slices of one length.

@@ -8,7 +8,7 @@ use super::montgomery::{prepared, prepared_word};
 use super::packed::{
     prepared_product, prepared_reduced, product_reduced, products, scaled, scaled_each, sum_reduced,
 };
-use super::reduce_each::{FOLD, reduce_each_product};
+use super::reduce_each::{RADIX, reduce_each_product};
 use crate::lanes::{LaneWidth, Lanes};
 use crate::words::wide_sums;
 use mlu_ring::{Field, Lanewise};
@@ -48,7 +48,7 @@ where
     // The compiler prepares a factor that stays the same in a loop once.
     #[inline(always)]
     fn lanes_times_fixed(p: Lanes<Self, W>, factor: Lanes<Self, W>) -> Lanes<Self, W> {
-        let prepared = reduce_each_product(scaled(&factor, FOLD as u32));
+        let prepared = reduce_each_product(scaled(&factor, RADIX as u32));
         prepared_product(scaled_each(&p, prepared))
     }
 

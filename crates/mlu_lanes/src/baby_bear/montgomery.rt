@@ -3,11 +3,11 @@
 //! A factor that meets many elements is multiplied by `2^32` once. The sums of its products then
 //! ask two products each for their residues, where [`reduce_each_word`] asks three.
 ghost use Rattle.std.specs.Prelude.{◌≡◌, ℕ, ◌+◌, ◌-◌, ◌*◌, ◌/◌, ◌%◌, ◌^◌, ◌<◌, slice_index};
-ghost use Rattle.mlu_lanes.specs.BabyBear.{canonical};
-ghost use Rattle.mlu_lanes.specs.declared.baby_bear.reduce_each.TheConstants.{FOLD};
+ghost use Rattle.mlu_lanes.specs.BabyBear.{canonical, IsQuotient};
+ghost use Rattle.mlu_lanes.specs.declared.baby_bear.reduce_each.TheConstants.{RADIX};
 
 use super::reduce::reduce_product;
-use super::reduce_each::{FOLD, reduce_each_once};
+use super::reduce_each::{RADIX, reduce_each_once};
 use super::{BabyBear, MODULUS};
 use crate::words::{
     all, differences, least, lower_halves, narrowed, shifted_right, sums, wide_all, wide_products,
@@ -24,10 +24,10 @@ const INVERSE: u64 = 2281701377;
 pub fn prepared<const W: usize>(
     column: &(BabyBear<W>, BabyBear<W>, BabyBear<W>, BabyBear<W>),
 ) -> [u32; 4]
-    ensures first { slice_index result 0 ≡ canonical column.now.0 * FOLD % MODULUS }
-    ensures second { slice_index result 1 ≡ canonical column.now.1 * FOLD % MODULUS }
-    ensures third { slice_index result 2 ≡ canonical column.now.2 * FOLD % MODULUS }
-    ensures fourth { slice_index result 3 ≡ canonical column.now.3 * FOLD % MODULUS }
+    ensures first { slice_index result 0 ≡ canonical column.now.0 * RADIX % MODULUS }
+    ensures second { slice_index result 1 ≡ canonical column.now.1 * RADIX % MODULUS }
+    ensures third { slice_index result 2 ≡ canonical column.now.2 * RADIX % MODULUS }
+    ensures fourth { slice_index result 3 ≡ canonical column.now.3 * RADIX % MODULUS }
     ensures least { (i : ℕ) → i < 4 → slice_index result i < MODULUS }
 {
     [
@@ -42,10 +42,10 @@ pub fn prepared<const W: usize>(
 #[inline]
 pub fn prepared_word(residue: u32) -> u32
     requires { residue < MODULUS }
-    ensures value { result ≡ residue * FOLD % MODULUS }
+    ensures value { result ≡ residue * RADIX % MODULUS }
     ensures least { result < MODULUS }
 {
-    reduce_product(u64::from(residue) * FOLD)
+    reduce_product(u64::from(residue) * RADIX)
 }
 
 /// The residue whose product with `2^32` has the residue of `word`. Asks that `word` is below the
@@ -54,7 +54,7 @@ pub fn prepared_word(residue: u32) -> u32
 pub fn reduce_prepared_word(word: u64) -> u32
     requires { word < MODULUS * MODULUS }
     ensures least { result < MODULUS }
-    ensures value { result * 2 ^ 32 % MODULUS ≡ word % MODULUS }
+    ensures value { IsQuotient result word }
 {
     residue_difference((word >> 32) as u32, carried_word(word % 4294967296))
 }
@@ -84,7 +84,7 @@ fn residue_difference(a: u32, b: u32) -> u32
 pub fn reduce_prepared<const W: usize>(words: Simd<u64, W>) -> Simd<u32, W>
     requires { (j : ℕ) → j < W → slice_index words j < 4 * MODULUS * MODULUS }
     ensures least { (j : ℕ) → j < W → slice_index result j < MODULUS }
-    ensures value { (j : ℕ) → j < W → slice_index result j * 2 ^ 32 % MODULUS ≡ slice_index words.entry j % MODULUS }
+    ensures value { (j : ℕ) → j < W → IsQuotient (slice_index result j) (slice_index words.entry j) }
 {
     residue_differences(upper_residues(words), carried(low_quotients(words)))
 }
@@ -94,7 +94,7 @@ pub fn reduce_prepared<const W: usize>(words: Simd<u64, W>) -> Simd<u32, W>
 pub fn reduce_prepared_products<const W: usize>(words: Simd<u64, W>) -> Simd<u32, W>
     requires { (j : ℕ) → j < W → slice_index words j < MODULUS * MODULUS }
     ensures least { (j : ℕ) → j < W → slice_index result j < MODULUS }
-    ensures value { (j : ℕ) → j < W → slice_index result j * 2 ^ 32 % MODULUS ≡ slice_index words.entry j % MODULUS }
+    ensures value { (j : ℕ) → j < W → IsQuotient (slice_index result j) (slice_index words.entry j) }
 {
     let upper = narrowed(shifted_right(words, 32));
     residue_differences(upper, carried(low_quotients(words)))

@@ -9,8 +9,8 @@ use crate::words::{
 };
 use std::simd::prelude::*;
 
-/// `2^28 - 2`, which is `2^32` modulo the modulus.
-pub const FOLD: u64 = 268435454;
+/// `2^32` modulo the modulus: `2^28 - 2`.
+pub const RADIX: u64 = 268435454;
 
 /// The residues of any lanes.
 ///
@@ -33,11 +33,11 @@ pub fn reduce_each_word<const W: usize>(words: Simd<u64, W>) -> Simd<u32, W>
 #[inline]
 fn folded<const W: usize>(words: Simd<u64, W>) -> Simd<u64, W>
     requires { (j : ℕ) → j < W → slice_index words j < 2 ^ 64 }
-    ensures { (j : ℕ) → j < W → slice_index result j ≡ slice_index words.entry j / 2 ^ 32 * FOLD + slice_index words.entry j % 2 ^ 32 }
+    ensures { (j : ℕ) → j < W → slice_index result j ≡ slice_index words.entry j / 2 ^ 32 * RADIX + slice_index words.entry j % 2 ^ 32 }
 {
     let high = shifted_right(words, 32);
     let low = lower_halves(words);
-    let scaled = wide_products(high, wide_all(FOLD));
+    let scaled = wide_products(high, wide_all(RADIX));
     wide_sums(scaled, low)
 }
 

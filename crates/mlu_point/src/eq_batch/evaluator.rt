@@ -1,12 +1,20 @@
 //! How shares of scalars are multiplied by a coordinate of their point.
 ghost use Rattle.std.specs.Prelude.{◌≡◌, replicate};
 
-use crate::evaluator::{EmbeddedCoordinates, EqualityEvaluator};
 use mlu_ring::{
     Additive, Algebra, ExtensionField, Field, PackedFieldExtension, PrimeCharacteristicRing,
     scale_by_base,
 };
 use std::marker::PhantomData;
+
+/// The product of a share with a coordinate, which stands for its image in the ring of the shares.
+pub(super) trait EqualityEvaluator<C, S: PrimeCharacteristicRing> {
+    ghost image: { C → S };
+
+    /// The product of the share and the coordinate's image.
+    fn multiply(share: S, coordinate: C) -> S
+        ensures { result ≡ S.ring.product share (image coordinate) };
+}
 
 /// An evaluator that multiplies a packed share as well: the coordinate stands in every lane.
 pub(super) trait PackedEvaluator<F: Field, C: Additive, EF: ExtensionField<F>>: EqualityEvaluator<
@@ -46,7 +54,18 @@ impl<F: Field, EF: ExtensionField<F>> PackedEvaluator<F, EF, EF> for ExtFieldEva
 }
 
 /// Points with coordinates in the base field of the scalars.
-impl<F: Field, EF: ExtensionField<F>> PackedEvaluator<F, F, EF> for EmbeddedCoordinates {
+pub(super) struct BaseFieldEvaluator;
+
+impl<B: Additive, R: Algebra<B>> EqualityEvaluator<B, R> for BaseFieldEvaluator {
+    ghost image = { R.embed };
+
+    #[inline(always)]
+    fn multiply(share: R, coordinate: B) -> R {
+        share.scale(coordinate)
+    }
+}
+
+impl<F: Field, EF: ExtensionField<F>> PackedEvaluator<F, F, EF> for BaseFieldEvaluator {
     ghost use Rattle.mlu_ring.specs.Lanes.{splat_of};
     ghost use Rattle.mlu_point.specs.Splats.{lanes-of_splat};
 

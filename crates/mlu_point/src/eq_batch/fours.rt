@@ -4,7 +4,7 @@ ghost use Rattle.std.specs.Prelude.{◌≡◌, ℕ, ◌+◌, ◌*◌, ◌%◌, �
 ghost use Rattle.mlu_ring.specs.Sums.{sum_of};
 ghost use Rattle.mlu_point.specs.Batches.{lower_share, upper_share, four_image, four_ring, fours, two_pairs, AreFourShares, AreShares};
 
-use crate::evaluator::EqualityEvaluator;
+use super::evaluator::EqualityEvaluator;
 use mlu_ring::{Additive, PrimeCharacteristicRing};
 
 /// The packed values of a share.

@@ -6,9 +6,8 @@ ghost use Rattle.mlu_ring.specs.Matrices.{left_by};
 ghost use Rattle.mlu_point.specs.Batches.{column_weights, share_places, ArePacked};
 ghost use Rattle.mlu_point.specs.Batches.{four_lanes, packed_batch, pair_lanes, two_pairs, with_batch};
 
-use super::evaluator::{InLanes, PackedEvaluator};
+use super::evaluator::{EqualityEvaluator, InLanes, PackedEvaluator};
 use super::fours::{FOUR, split_fours, sum_of_fours};
-use crate::evaluator::EqualityEvaluator;
 use mlu_ring::{
     Additive, ExtensionField, Field, PackedFieldExtension, PackedValue, PrimeCharacteristicRing,
     RowMajorMatrixView, row_of,

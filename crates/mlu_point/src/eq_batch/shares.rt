@@ -3,7 +3,7 @@ ghost use Rattle.std.specs.Prelude.{◌≡◌, length};
 ghost use Rattle.mlu_ring.specs.Sums.{sum_of};
 ghost use Rattle.mlu_point.specs.Batches.{upper_share, lower_share, AreShares};
 
-use crate::evaluator::EqualityEvaluator;
+use super::evaluator::EqualityEvaluator;
 use mlu_ring::{Additive, PrimeCharacteristicRing};
 
 /// Splits each share by a coordinate: its part at 1 goes to `high`, and the rest stays.

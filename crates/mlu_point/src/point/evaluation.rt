@@ -79,7 +79,7 @@ impl<F: Field> Point<F> {
 
     /// The value at `row` of the weights at `point`, each moved to the next vertex, in three parts:
     /// carry, the step out of the last vertex, where every bit goes from 1 to 0; done, the steps
-    /// between vertices; last, elsewhere called omega, the last vertex as its own successor. Asks for
+    /// between vertices; last, the last vertex as its own successor. Asks for
     /// equal lengths.
     ///
     /// Done and last add up to the whole under [`Successor::RepeatLast`], done and carry under

@@ -8,16 +8,16 @@ use mlu_ring::{ExtensionField, Field};
 use multilinear_util::point::Point;
 use multilinear_util::poly::Poly;
 
-/// `eval_next`: two points. Answers carry, done and omega.
+/// `eval_next`: two points. Answers carry, done and last.
 pub fn eval_next<F: Field + Element>(words: &mut Words<'_>) -> Result<String, Fault> {
     let point = words.list::<F>()?;
     let row = words.list::<F>()?;
     if point.len() != row.len() {
         return Err(Fault::Unknown(Reason::Size));
     }
-    let (carry, done, omega) = Point::eval_next(&point, &row);
+    let (carry, done, last) = Point::eval_next(&point, &row);
     let mut steps = Vec::with_capacity(words.alloc(), 3)?;
-    for step in [carry, done, omega] {
+    for step in [carry, done, last] {
         steps.push(step).map_err(|_| Fault::Memory)?;
     }
     list_word(words.alloc(), &steps)

@@ -1,7 +1,7 @@
 use Rattle.std.proofs.Common.{◌≡◌, ◌+◌, ◌/◌, ◌<◌, length, get_or, ap, sym, ◌∙◌, arith}
 use Rattle.std.proofs.lemmas.List.{get_or_default}
 use Rattle.mlu_ring.proofs.SumsBelow.{sum_below-zero}
-use Rattle.mlu_sumcheck.proofs.Rounds.{high_term, sum-more, low-more, step-more, round-sums}
+use Rattle.mlu_sumcheck.proofs.Rounds.{high_term, sum-more, low-more, rise-more, round-sums}
 use Rattle.mlu_sumcheck.proofs.prover.coefficients.Goals as goal
 
 pub loop-i-init : goal.loop-i-init
@@ -34,7 +34,7 @@ loop-i-preserved g c =
       high = sum-more ring laws i (high_term ring h w e) c.loop-i.at_one c.mul-in-loop-i.result c.add-at_one.result c.loop-i.invariant.high
           (met.PrimeCharacteristicRing.multiplies _ _ _ c.mul-in-loop-i.ensures ∙ ap (λ t. ring.product t c.index-poly-half.result) high_weight ∙ ap (ring.product (get_or w (h + i) ring.zero)) high)
           (met.Additive.adds _ _ _ c.add-at_one.ensures);
-      steps = step-more ring laws h w e i _ _ _ _ c.sub.result c.sub-in-loop-i.result c.loop-i.quadratic c.mul-in-loop-i-2.result c.add-quadratic.result low_weight high_weight low high
+      steps = rise-more ring laws h w e i _ _ _ _ c.sub.result c.sub-in-loop-i.result c.loop-i.quadratic c.mul-in-loop-i-2.result c.add-quadratic.result low_weight high_weight low high
           (met.Additive.subtracts _ _ _ c.sub.ensures) (met.Additive.subtracts _ _ _ c.sub-in-loop-i.ensures) (met.PrimeCharacteristicRing.multiplies _ _ _ c.mul-in-loop-i-2.ensures)
           c.loop-i.invariant.steps (met.Additive.adds _ _ _ c.add-quadratic.ensures);
     }

@@ -1,7 +1,7 @@
 use Rattle.std.proofs.Common.{◌≡◌, ◌+◌, ◌/◌, ◌<◌, length, ap, sym, ◌∙◌, arith}
 use Rattle.std.proofs.lemmas.List.{get_or_default}
 use Rattle.mlu_ring.proofs.SumsBelow.{sum_below-zero}
-use Rattle.mlu_sumcheck.proofs.Rounds.{low-more, step-more, constant-sum, quadratic-sum, round-of_claim, adds_up-of_claim}
+use Rattle.mlu_sumcheck.proofs.Rounds.{low-more, rise-more, constant-sum, quadratic-sum, round-of_claim, adds_up-of_claim}
 use Rattle.mlu_sumcheck.proofs.prover.coefficients_of_claim.Goals as goal
 
 pub loop-i-init : goal.loop-i-init
@@ -30,7 +30,7 @@ loop-i-preserved g c =
     record {
       low = low-more ring laws w e i _ _ c.loop-i.at_zero c.mul.result c.add-at_zero.result low_weight low (met.PrimeCharacteristicRing.multiplies _ _ _ c.mul.ensures)
           c.loop-i.invariant.low (met.Additive.adds _ _ _ c.add-at_zero.ensures);
-      steps = step-more ring laws h w e i _ _ _ _ c.sub.result c.sub-in-loop-i.result c.loop-i.quadratic c.mul-in-loop-i.result c.add-quadratic.result low_weight high_weight low high
+      steps = rise-more ring laws h w e i _ _ _ _ c.sub.result c.sub-in-loop-i.result c.loop-i.quadratic c.mul-in-loop-i.result c.add-quadratic.result low_weight high_weight low high
           (met.Additive.subtracts _ _ _ c.sub.ensures) (met.Additive.subtracts _ _ _ c.sub-in-loop-i.ensures) (met.PrimeCharacteristicRing.multiplies _ _ _ c.mul-in-loop-i.ensures)
           c.loop-i.invariant.steps (met.Additive.adds _ _ _ c.add-quadratic.ensures);
     }
