@@ -4,7 +4,7 @@ use Rattle.std.proofs.Common.{zero, suc, arith}
 use Rattle.mlu_ring.proofs.Tabulated.{get_or-tabulate}
 use Rattle.mlu_lanes.specs.LaneRing.{values_of, splat}
 use Rattle.mlu_lanes.specs.declared.lanes.Lanes.{Lanes}
-use Rattle.mlu_lanes.specs.Columns.{column_of}
+use Rattle.mlu_ring.specs.Columns.{column_of}
 use Rattle.mlu_ext.specs.Quartic.{quartic_coefficients}
 use Rattle.mlu_ext.specs.QuarticPacked.{quartic_layout, quartic_elements, quartic_lane}
 use Rattle.mlu_ext.specs.declared.quartic.QuarticExtension.{QuarticExtension}

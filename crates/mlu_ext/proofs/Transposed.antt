@@ -4,7 +4,7 @@ use Rattle.std.proofs.Common.{sym, ap, ◌∙◌}
 use Rattle.mlu_ring.proofs.Tabulated.{tabulate, tabulate-entries}
 use Rattle.mlu_lanes.specs.LaneRing.{values_of, packed_of, lanes_are_lists}
 use Rattle.mlu_lanes.specs.declared.lanes.Lanes.{Lanes}
-use Rattle.mlu_lanes.specs.Columns.{column_of}
+use Rattle.mlu_ring.specs.Columns.{column_of}
 use Rattle.mlu_ext.specs.Transposed.{Layout, elements_of, packed_column, elements_are_lists}
 
 module _ {F E P : Type 0} {D W : ℕ} (zero : F) (layout : Layout F E P D W) where

@@ -2,7 +2,7 @@
 use Rattle.std.specs.Prelude.{◌≡◌, ◌<◌, ℕ, List, length, map, slice_index_or}
 use Rattle.std.proofs.Common.{sym, ap, ◌∙◌}
 use Rattle.std.proofs.lemmas.List.{ext_get_or, get_or-map, length-map}
-use Rattle.mlu_lanes.specs.Columns.{column_of}
+use Rattle.mlu_ring.specs.Columns.{column_of}
 use Rattle.mlu_ring.specs.Lanes.{IsLists}
 use Rattle.mlu_ring.proofs.Tabulated.{tabulate, length-tabulate, get_or-tabulate, tabulate-entries}
 use Rattle.mlu_lanes.specs.LaneRing.{values_of, packed_of, lanes_are_lists}

@@ -1,6 +1,6 @@
 //! Coefficients of elements, side by side.
 ghost use Rattle.std.specs.Prelude.{◌≡◌, ◌<◌, length};
-ghost use Rattle.mlu_lanes.specs.Columns.{column_of};
+ghost use Rattle.mlu_ring.specs.Columns.{column_of};
 ghost use Rattle.mlu_lanes.specs.LaneRing.{values_of};
 
 use mlu_lanes::{Coefficients, Lanes};

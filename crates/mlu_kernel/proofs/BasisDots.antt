@@ -8,12 +8,13 @@ use Rattle.mlu_ring.specs.Tables.{pair}
 use Rattle.mlu_ring.specs.Lanes.{logical}
 use Rattle.mlu_ring.proofs.Tabulated.{get_or-tabulate}
 use Rattle.mlu_ring.proofs.Totals.{pair-nil, pair-cons, pair-append, pair-take, total-zero, total-sum, total-product}
-use Rattle.mlu_kernel.specs.Columns.{column, columns}
+use Rattle.mlu_ring.specs.Columns.{column_of}
+use Rattle.mlu_kernel.specs.Columns.{columns}
 use Rattle.mlu_ring.proofs.PackedCoefficients.{IsPackedExtension, coefficient-zero, coefficient-sum, coefficient-scale, by_coefficients}
 
 module _ {B E P Q : Type 0} {base : Ring B} {ext : Ring E} {packing : Ring P} {packed : Ring Q} {width dimension : ℕ} {lanes : P → List B} {of_lanes : List B → P} {coefficients : E → List B} {ext_lanes : Q → List E} {of_ext_lanes : List E → Q} {packed_coefficients : Q → List P} {of_packed_coefficients : List P → Q} {embed : B → E} {embed_packing : P → Q} (laws : IsPackedExtension base ext packing packed width dimension lanes of_lanes coefficients ext_lanes of_ext_lanes packed_coefficients of_packed_coefficients embed embed_packing) where
   -- packed coefficient c of a packed dot is the dot of column c
-  coefficient-dot : (ws : List Q) (bs : List P) (c : ℕ) → c < dimension → length ws ≡ length bs → get_or (packed_coefficients (pair packed ws (map embed_packing bs))) c packing.zero ≡ pair packing (column packed_coefficients packing.zero ws c) bs
+  coefficient-dot : (ws : List Q) (bs : List P) (c : ℕ) → c < dimension → length ws ≡ length bs → get_or (packed_coefficients (pair packed ws (map embed_packing bs))) c packing.zero ≡ pair packing (column_of packing.zero packed_coefficients ws c) bs
   coefficient-dot [] [] c h long =
       ap (λ p. get_or (packed_coefficients p) c packing.zero) (pair-nil packed laws.packed_laws [])
       ∙ coefficient-zero laws c h
@@ -27,7 +28,7 @@ module _ {B E P Q : Type 0} {base : Ring B} {ext : Ring E} {packing : Ring P} {p
       ∙ coefficient-sum laws (packed.product w (embed_packing b)) rest c h
       ∙ ap (λ t. packing.sum t (get_or (packed_coefficients rest) c packing.zero)) (coefficient-scale laws w b c h)
       ∙ ap (packing.sum (packing.product first b)) (coefficient-dot ws bs c h (omega arith))
-      ∙ sym (pair-cons packing laws.packing_laws first b (column packed_coefficients packing.zero ws c) bs)
+      ∙ sym (pair-cons packing laws.packing_laws first b (column_of packing.zero packed_coefficients ws c) bs)
 
   -- the lanes of a packed dot add up to the dot of the lanes
   total-dot : (ws : List Q) (bs : List P) → length ws ≡ length bs → sum_of ext (ext_lanes (pair packed ws (map embed_packing bs))) ≡ pair ext (logical ext_lanes ws) (map embed (logical lanes bs))
@@ -67,6 +68,6 @@ module _ {B E P Q : Type 0} {base : Ring B} {ext : Ring E} {packing : Ring P} {p
       (λ c h.
       ap (λ l. get_or l c packing.zero) is
       ∙ get_or-map (λ v. pair packing v bs) of c [] packing.zero (rw many h)
-      ∙ ap (λ v. pair packing v bs) (get_or-tabulate dimension (column packed_coefficients packing.zero ws) c [] h)
+      ∙ ap (λ v. pair packing v bs) (get_or-tabulate dimension (column_of packing.zero packed_coefficients ws) c [] h)
       ∙ sym (coefficient-dot ws bs c h long)))
       ∙ total-dot ws bs long

@@ -7,18 +7,19 @@ use Rattle.std.proofs.Math.Seq.{take-add}
 use Rattle.mlu_ring.specs.Lanes.{logical}
 use Rattle.mlu_ring.specs.Matrices.{row_at}
 use Rattle.mlu_ring.proofs.Doubling.{map_range-add}
-use Rattle.mlu_kernel.specs.Columns.{column, columns}
+use Rattle.mlu_ring.specs.Columns.{column_of}
+use Rattle.mlu_kernel.specs.Columns.{columns}
 
 -- one more column is written
-pub columns-more : {P Q : Type 0} (coefficients : Q → List P) (z : P) (ws : List Q) (split : List (List P)) (k : ℕ) (made : List P) → k < length split → map (take (length ws)) (take k split) ≡ columns coefficients z ws k → take (length ws) made ≡ column coefficients z ws k
+pub columns-more : {P Q : Type 0} (coefficients : Q → List P) (z : P) (ws : List Q) (split : List (List P)) (k : ℕ) (made : List P) → k < length split → map (take (length ws)) (take k split) ≡ columns coefficients z ws k → take (length ws) made ≡ column_of z coefficients ws k
     → map (take (length ws)) (take (k + 1) (set split k made)) ≡ columns coefficients z ws (k + 1)
 columns-more coefficients z ws split k made h before is =
     let front = take (length ws) in
     ap (map front) (take_more_set split k made h)
     ∙ map-append front (take k split) (made ∷ [])
     ∙ ap (λ l. l ++ front made ∷ []) before
-    ∙ ap (λ v. columns coefficients z ws k ++ v ∷ []) (is ∙ ap (column coefficients z ws) (sym (zero-add k)))
-    ∙ sym (map_range-add (column coefficients z ws) 0 k 1)
+    ∙ ap (λ v. columns coefficients z ws k ++ v ∷ []) (is ∙ ap (column_of z coefficients ws) (sym (zero-add k)))
+    ∙ sym (map_range-add (column_of z coefficients ws) 0 k 1)
 
 -- one more packed value is loaded
 pub lanes-more : {P V : Type 0} (lanes : P → List V) (n : ℕ) (blocks : List P) (row loaded : List V) (i v : ℕ) (p : P) → i < length blocks → logical lanes (take i blocks) ≡ take (i * n) row → lanes p ≡ loaded → loaded ≡ row_at v row i → v ≡ n

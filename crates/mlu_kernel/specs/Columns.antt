@@ -3,22 +3,19 @@ use Rattle.std.specs.Prelude.{◌≡◌, ◌<◌, ◌≤◌, ℕ, List, map, len
 use Rattle.std.specs.Borrow.{RattleType}
 use Rattle.std.specs.List.{All, range_with_len}
 use Rattle.std.specs.Mem.{type_size}
+use Rattle.mlu_ring.specs.Columns.{column_of}
 use Rattle.mlu_ring.specs.Ring.{Ring}
 use Rattle.mlu_ring.specs.Tables.{pair}
 use Rattle.mlu_kernel.specs.declared.basis_split.TheConstants.{MOST_WEIGHTS, MOST_COEFFICIENTS}
 use Rattle.mlu_kernel.specs.declared.small.TheConstants.{SMALL_BYTES}
 
--- coefficient c of each weight
-abbrev pub column : {Q P : Type 0} → (Q → List P) → P → List Q → ℕ → List P
-column coefficients zero weights c = map (λ w. slice_index_or (coefficients w) c zero) weights
-
 -- the columns of the first coefficients
 abbrev pub columns : {Q P : Type 0} → (Q → List P) → P → List Q → ℕ → List (List P)
-columns coefficients zero weights dimension = map (λ c. column coefficients zero weights c) (range_with_len 0 dimension)
+columns coefficients zero weights dimension = map (λ c. column_of zero coefficients weights c) (range_with_len 0 dimension)
 
 -- coefficient k of the old value, plus the products of the blocks with coefficient k of their weights, splat
 abbrev pub grown : {F E P : Type 0} → Ring P → (F → P) → (E → List F) → F → ℕ → List P → List P → List E → P
-grown ring splat coefficients zero k old blocks weights = ring.sum (slice_index_or old k ring.zero) (pair ring blocks (map splat (column coefficients zero weights k)))
+grown ring splat coefficients zero k old blocks weights = ring.sum (slice_index_or old k ring.zero) (pair ring blocks (map splat (column_of zero coefficients weights k)))
 
 -- elements of the three types take few bytes
 abbrev pub AreSmall : RattleType → RattleType → RattleType → Type 0

@@ -6,10 +6,11 @@
 ghost use Rattle.std.specs.Prelude.{◌≡◌, ◌*◌, ◌<◌, ◌≤◌, length, map, take};
 ghost use Rattle.std.specs.List.{All};
 ghost use Rattle.std.specs.Mem.{type_size};
+ghost use Rattle.mlu_ring.specs.Columns.{column_of};
 ghost use Rattle.mlu_ring.specs.Lanes.{logical};
 ghost use Rattle.mlu_ring.specs.Matrices.{row_at};
 ghost use Rattle.mlu_ring.specs.Tables.{pair};
-ghost use Rattle.mlu_kernel.specs.Columns.{column, AreColumns};
+ghost use Rattle.mlu_kernel.specs.Columns.{AreColumns};
 ghost use Rattle.mlu_kernel.specs.Kernels.{HasDot};
 
 use crate::basis_dot::packed_basis_dot;
@@ -56,7 +57,7 @@ fn coefficient_column<F: Field, EF: ExtensionField<F>>(
     requires small { type_size F.Packing.row < SMALL_BYTES }
     ensures long { length result ≡ MOST_WEIGHTS }
     ensures column { take (length weights.now) result
-        ≡ column EF.ExtensionPacking.packed_coefficients F.Packing.ring.zero weights.now k }
+        ≡ column_of F.Packing.ring.zero EF.ExtensionPacking.packed_coefficients weights.now k }
 {
     let mut coefficients = [F::Packing::ZERO; MOST_WEIGHTS];
     for i in 0..weights.len() {

@@ -2,7 +2,7 @@
 use Rattle.std.proofs.Common.{◌≡◌, ℕ, zero, suc, ◌+◌, ◌<◌, List, length, get_or, slice_index, ap, ◌∙◌, arith}
 use Rattle.mlu_ring.proofs.Filled.{IsFilled, filled_by_four, read_image}
 use Rattle.mlu_lanes.specs.BabyBear.{reduced, same_canonical}
-use Rattle.mlu_lanes.specs.Columns.{column_of}
+use Rattle.mlu_ring.specs.Columns.{column_of}
 use Rattle.mlu_lanes.specs.Packed.{residue_at}
 use Rattle.mlu_lanes.specs.declared.baby_bear.BabyBear.{BabyBear}
 

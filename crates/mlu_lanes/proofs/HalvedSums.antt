@@ -5,7 +5,7 @@ use Rattle.std.proofs.Math.Nat.{add-mod-mod, mod-add-mod}
 use Rattle.mlu_ring.specs.Tables.{pair}
 use Rattle.mlu_ring.proofs.Pairs.{read-map}
 use Rattle.mlu_ring.proofs.Totals.{pair-append, pair-take}
-use Rattle.mlu_lanes.specs.Columns.{column_of}
+use Rattle.mlu_ring.specs.Columns.{column_of}
 use Rattle.mlu_lanes.specs.BabyBear.{baby_bear_ring, baby_bear_laws, canonical_are_residues, reduced}
 use Rattle.mlu_lanes.specs.Residues.{same_residue}
 use Rattle.mlu_lanes.specs.declared.baby_bear.BabyBear.{BabyBear}

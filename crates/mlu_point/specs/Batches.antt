@@ -1,5 +1,6 @@
 -- What a batch writes, and how it splits its scalars.
 use Rattle.std.specs.Prelude.{◌≡◌, ℕ, ◌+◌, ◌-◌, ◌*◌, ◌/◌, ◌^◌, ◌<◌, ◌≤◌, Bool, List, [], ◌∷◌, ◌++◌, length, map, slice_index_or, if◌then◌else◌}
+use Rattle.mlu_ring.specs.Shares.{rest_of, share_of}
 use Rattle.mlu_ring.specs.Ring.{Ring}
 use Rattle.mlu_ring.specs.Lanes.{logical}
 use Rattle.mlu_ring.specs.Matrices.{batch, column, left_by, row_at}
@@ -16,11 +17,11 @@ after_batch ring succeeds adds out values scalars = if succeeds then with_batch 
 
 -- the share of a scalar that goes to the vertices with 1 at a coordinate
 abbrev pub upper_share : {C R : Type 0} → Ring R → (C → R) → R → C → R
-upper_share ring image scalar c = ring.product scalar (image c)
+upper_share ring image scalar c = share_of ring (image c) scalar
 
 -- what of it is left for those with 0 there
 abbrev pub lower_share : {C R : Type 0} → Ring R → (C → R) → R → C → R
-lower_share ring image scalar c = ring.minus scalar (ring.product scalar (image c))
+lower_share ring image scalar c = rest_of ring (image c) scalar
 
 -- entry i of the shares is that of scalar i at coordinate i
 abbrev pub AreShares : {C R : Type 0} → (R → C → R) → List R → List R → List C → Type 0

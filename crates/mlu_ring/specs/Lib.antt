@@ -7,3 +7,5 @@ pub mod Matrices
 pub mod Calls
 pub mod Fours
 pub mod Meters
+pub mod Shares
+pub mod Columns

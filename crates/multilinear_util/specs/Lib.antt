@@ -4,4 +4,3 @@ pub mod Thresholds
 pub mod Storage
 pub mod Split
 pub mod Compressions
-pub mod Shares

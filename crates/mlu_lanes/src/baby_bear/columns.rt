@@ -1,7 +1,8 @@
 //! A column of coefficients times rows of four: products are added up in two halves of words, and
 //! reduced once.
 ghost use Rattle.std.specs.Prelude.{◌≡◌, ℕ, ◌+◌, ◌*◌, ◌%◌, ◌^◌, ◌<◌, ◌≤◌, length, slice_index};
-ghost use Rattle.mlu_lanes.specs.Columns.{column_of, product_of_columns};
+ghost use Rattle.mlu_ring.specs.Columns.{column_of};
+ghost use Rattle.mlu_lanes.specs.Columns.{product_of_columns};
 ghost use Rattle.mlu_ring.specs.Tables.{pair};
 ghost use Rattle.mlu_lanes.specs.BabyBear.{baby_bear_ring, canonical, reduced};
 ghost use Rattle.mlu_lanes.specs.Packed.{residue_at};

@@ -1,7 +1,7 @@
 //! Coefficients of elements side by side: four elements are four rows of words, which are transposed.
 ghost use Rattle.std.specs.Prelude.{◌≡◌, ℕ, ◌+◌, ◌<◌, length, slice_index};
 ghost use Rattle.mlu_lanes.specs.BabyBear.{reduced};
-ghost use Rattle.mlu_lanes.specs.Columns.{column_of};
+ghost use Rattle.mlu_ring.specs.Columns.{column_of};
 ghost use Rattle.mlu_lanes.specs.LaneRing.{values_of};
 ghost use Rattle.mlu_lanes.specs.Packed.{IsLane};
 

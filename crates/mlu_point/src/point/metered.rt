@@ -1,5 +1,6 @@
 //! Equality tables whose products a meter makes: one for each entry but one.
 ghost use Rattle.std.specs.Prelude.{◌≡◌, ◌+◌, ◌-◌, ◌*◌, ◌^◌, length, map};
+ghost use Rattle.mlu_ring.specs.Shares.{rest_of, share_of};
 ghost use Rattle.mlu_point.specs.Orders.{weights_by};
 
 use super::order::BitOrder;
@@ -16,8 +17,8 @@ fn split_by_meter<F: Lanewise, M: Meter<F>>(
     meter: &mut M,
 )
     requires { length low.old ≡ length high.old }
-    ensures upper { high.new ≡ map (λ w. F.ring.product w coordinate) low.old }
-    ensures lower { low.new ≡ map (λ w. F.ring.minus w (F.ring.product w coordinate)) low.old }
+    ensures upper { high.new ≡ map (share_of F.ring coordinate) low.old }
+    ensures lower { low.new ≡ map (rest_of F.ring coordinate) low.old }
     ensures made { M.made meter.new ≡ M.made meter.old + length low.old }
     ensures groups { M.groups meter.new ≡ M.groups meter.old }
 {
@@ -39,8 +40,8 @@ fn split_groups<F: Lanewise, M: Meter<F>>(
 )
     requires low { length low.old ≡ groups * F.Packing.WIDTH }
     requires high { length low.old ≡ length high.old }
-    ensures upper { high.new ≡ map (λ w. F.ring.product w coordinate) low.old }
-    ensures lower { low.new ≡ map (λ w. F.ring.minus w (F.ring.product w coordinate)) low.old }
+    ensures upper { high.new ≡ map (share_of F.ring coordinate) low.old }
+    ensures lower { low.new ≡ map (rest_of F.ring coordinate) low.old }
     ensures made { M.made meter.new ≡ M.made meter.old + length low.old }
     ensures groups { M.groups meter.new ≡ M.groups meter.old }
 {
@@ -65,8 +66,8 @@ fn split_group<F: Lanewise, M: Meter<F>>(
 )
     requires low { length low.old ≡ F.Packing.WIDTH }
     requires high { length high.old ≡ F.Packing.WIDTH }
-    ensures upper { high.new ≡ map (λ w. F.ring.product w coordinate) low.old }
-    ensures lower { low.new ≡ map (λ w. F.ring.minus w (F.ring.product w coordinate)) low.old }
+    ensures upper { high.new ≡ map (share_of F.ring coordinate) low.old }
+    ensures lower { low.new ≡ map (rest_of F.ring coordinate) low.old }
     ensures made { M.made meter.new ≡ M.made meter.old + F.Packing.WIDTH }
     ensures groups { M.groups meter.new ≡ M.groups meter.old }
 {
@@ -85,8 +86,8 @@ fn split_entries<F: Lanewise, M: Meter<F>>(
     meter: &mut M,
 )
     requires { length low.old ≡ length high.old }
-    ensures upper { high.new ≡ map (λ w. F.ring.product w coordinate) low.old }
-    ensures lower { low.new ≡ map (λ w. F.ring.minus w (F.ring.product w coordinate)) low.old }
+    ensures upper { high.new ≡ map (share_of F.ring coordinate) low.old }
+    ensures lower { low.new ≡ map (rest_of F.ring coordinate) low.old }
     ensures made { M.made meter.new ≡ M.made meter.old + length low.old }
     ensures groups { M.groups meter.new ≡ M.groups meter.old }
 {

@@ -1,5 +1,6 @@
 //! Equality tables, each coordinate split off in place, and the weight of one vertex.
 ghost use Rattle.std.specs.Prelude.{◌≡◌, ◌↔◌, ◌+◌, ◌/◌, ◌%◌, ◌^◌, ◌<◌, IsTrue, length, map, MatchOption};
+ghost use Rattle.mlu_ring.specs.Shares.{rest_of, share_of};
 ghost use Rattle.mlu_ring.specs.Tables.{factor};
 ghost use Rattle.mlu_point.specs.Orders.{weights_by, with_top};
 ghost use Rattle.mlu_point.specs.Vertices.{IsWeightAt};
@@ -11,8 +12,8 @@ use mlu_ring::PrimeCharacteristicRing;
 #[inline]
 fn split_by_coordinate<R: PrimeCharacteristicRing>(low: &mut [R], high: &mut [R], coordinate: R)
     requires { length low.old ≡ length high.old }
-    ensures upper { high.new ≡ map (λ w. R.ring.product w coordinate) low.old }
-    ensures lower { low.new ≡ map (λ w. R.ring.minus w (R.ring.product w coordinate)) low.old }
+    ensures upper { high.new ≡ map (share_of R.ring coordinate) low.old }
+    ensures lower { low.new ≡ map (rest_of R.ring coordinate) low.old }
 {
     for i in 0..low.len() {
         let share = low[i].times_fixed(coordinate);

@@ -4,7 +4,7 @@ ghost use Rattle.mlu_ring.specs.Lanes.{logical};
 ghost use Rattle.mlu_ring.specs.Successor.{next};
 ghost use Rattle.mlu_ring.specs.Tables.{weights};
 ghost use Rattle.mlu_point.specs.Rules.{next_by};
-ghost use Rattle.multilinear_util.specs.Shares.{split_by};
+ghost use Rattle.mlu_ring.specs.Shares.{split_by};
 
 use super::{Poly, table_length};
 use mlu_point::point::{BitOrder, Successor, fill_equality_table};

@@ -1,7 +1,7 @@
 -- The lanes below k are coefficients of the elements.
 use Rattle.std.proofs.Common.{◌<◌, length, get_or, ◌∙◌, arith, length-set}
 use Rattle.std.proofs.lemmas.List.{length-map}
-use Rattle.mlu_lanes.specs.Columns.{column_of}
+use Rattle.mlu_ring.specs.Columns.{column_of}
 use Rattle.mlu_ring.proofs.Filled.{filled_next, filled_whole, read_image}
 use Rattle.mlu_ext.proofs.coefficients.column.Goals as goal
 

@@ -1,6 +1,6 @@
 -- Below k the lanes are filled with the coefficients.
 use Rattle.std.proofs.Common.{◌≡◌, length}
-use Rattle.mlu_lanes.specs.Columns.{column_of}
+use Rattle.mlu_ring.specs.Columns.{column_of}
 use Rattle.mlu_ring.proofs.Filled.{IsFilled}
 use Rattle.mlu_ext.proofs.coefficients.column.Given as goal
 

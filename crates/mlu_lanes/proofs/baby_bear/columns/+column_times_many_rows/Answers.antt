@@ -1,6 +1,6 @@
 -- The first places are summed as far as the halves go, and the others after them.
 use Rattle.std.proofs.Common.{◌≡◌, ◌+◌, ◌%◌, slice_index, slice_index_or, lit<, sym, ap, ◌∙◌, arith}
-use Rattle.mlu_lanes.specs.Columns.{column_of}
+use Rattle.mlu_ring.specs.Columns.{column_of}
 use Rattle.mlu_ring.specs.Tables.{pair}
 use Rattle.mlu_lanes.specs.BabyBear.{baby_bear_ring, canonical, canonical_below, reduced}
 use Rattle.mlu_lanes.specs.declared.baby_bear.TheConstants.{MODULUS}

@@ -6,7 +6,7 @@ use Rattle.mlu_ring.proofs.Groups.{pair-take_more, pair-take_four_more}
 use Rattle.mlu_ring.proofs.Totals.{pair-nil}
 use Rattle.mlu_lanes.specs.BabyBear.{baby_bear_ring, baby_bear_laws, canonical, reduced}
 use Rattle.mlu_lanes.specs.declared.baby_bear.TheConstants.{MODULUS}
-use Rattle.mlu_lanes.specs.Columns.{column_of}
+use Rattle.mlu_ring.specs.Columns.{column_of}
 use Rattle.mlu_lanes.proofs.HalvedSums.{more, read-column}
 use Rattle.mlu_lanes.proofs.ResidueSums.{reduced_once}
 use Rattle.mlu_lanes.proofs.baby_bear.columns.column_times_few_rows.Goals as goal

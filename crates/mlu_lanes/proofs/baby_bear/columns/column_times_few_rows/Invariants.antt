@@ -1,6 +1,6 @@
 -- Below i the halves have the sums of the products.
 use Rattle.std.proofs.Common.{◌*◌, take}
-use Rattle.mlu_lanes.specs.Columns.{column_of}
+use Rattle.mlu_ring.specs.Columns.{column_of}
 use Rattle.mlu_lanes.specs.BabyBear.{reduced}
 use Rattle.mlu_lanes.proofs.HalvedSums.{AreHalves}
 use Rattle.mlu_lanes.proofs.baby_bear.columns.column_times_few_rows.Given as goal

@@ -3,7 +3,7 @@ use Rattle.std.proofs.Common.{◌≡◌, ◌+◌, ◌*◌, ◌<◌, length, get_
 use Rattle.std.proofs.lemmas.List.{length-map}
 use Rattle.mlu_ring.proofs.Filled.{filled_next, filled_whole}
 use Rattle.mlu_lanes.specs.BabyBear.{reduced}
-use Rattle.mlu_lanes.specs.Columns.{column_of}
+use Rattle.mlu_ring.specs.Columns.{column_of}
 use Rattle.mlu_lanes.proofs.Columns.{column_at, column_four}
 use Rattle.mlu_lanes.proofs.baby_bear.transpose.coefficient_columns.Goals as goal
 

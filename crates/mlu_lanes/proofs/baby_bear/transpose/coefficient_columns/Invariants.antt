@@ -2,7 +2,7 @@
 use Rattle.std.proofs.Common.{◌≡◌, ◌*◌, length}
 use Rattle.mlu_ring.proofs.Filled.{IsFilled}
 use Rattle.mlu_lanes.specs.BabyBear.{reduced}
-use Rattle.mlu_lanes.specs.Columns.{column_of}
+use Rattle.mlu_ring.specs.Columns.{column_of}
 use Rattle.mlu_lanes.proofs.baby_bear.transpose.coefficient_columns.Given as goal
 
 abbrev pub invariant-loop-g : goal.invariant-loop-g

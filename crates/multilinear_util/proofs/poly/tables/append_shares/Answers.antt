@@ -1,6 +1,6 @@
 use Rattle.std.proofs.Common.{◌≡◌, ◌+◌, ◌<◌, ◌≤◌, ◌∷◌, [], ◌++◌, ◌∙◌, length, get_or, set, sym, ap, arith}
 use Rattle.std.proofs.lemmas.List.{get_or_default}
-use Rattle.multilinear_util.specs.Shares.{share_at, rest_at}
+use Rattle.mlu_ring.specs.Shares.{share_of, rest_of}
 use Rattle.multilinear_util.proofs.Shares.{split_first, split_first-none, split_first-read, split_first-all, split_one}
 use Rattle.multilinear_util.proofs.poly.tables.append_shares.Goals as goal
 
@@ -9,7 +9,7 @@ loop-i-init g c =
     let ring = g.R.Additive.ring in
     let e = g.R.Algebra.embed c.args.coordinate in
     record {
-      items = sym (split_first-none (rest_at ring e) (share_at ring e) c.args.table.now.items);
+      items = sym (split_first-none (rest_of ring e) (share_of ring e) c.args.table.now.items);
       len = omega arith;
     }
 
@@ -22,9 +22,9 @@ loop-i-preserved g c =
     let x = c.index.result.now in
     let y = c.index-in-loop-i.result.now in
     let made = c.scale-share.result in
-    let before = split_first (rest_at ring e) (share_at ring e) i w in
+    let before = split_first (rest_of ring e) (share_of ring e) i w in
     let within : c.loop-i.i < length c.args.table.now.items = omega (arith, c.loop-i-test.true, c.len-i-end.ensures) in
-    let reads = split_first-read (rest_at ring e) (share_at ring e) w i in
+    let reads = split_first-read (rest_of ring e) (share_of ring e) w i in
     let at_x = c.index.ensures ∙ ap (λ l. get_or l i x) c.loop-i.invariant.items ∙ reads x within in
     let at_y = c.index-in-loop-i.ensures ∙ ap (λ l. get_or l i y) c.loop-i.invariant.items ∙ reads y within in
     let same = at_y ∙ get_or_default w i y x within ∙ sym at_x in
@@ -35,8 +35,8 @@ loop-i-preserved g c =
       items = c.in_ok-push.ensures.items
           ∙ ap (λ l. set l i c.sub.result ++ made ∷ []) c.loop-i.invariant.items
           ∙ ap (λ t. set before i t ++ made ∷ []) left
-          ∙ ap (λ t. set before i (rest_at ring e x) ++ t ∷ []) c.scale-share.ensures
-          ∙ split_one (rest_at ring e) (share_at ring e) w i x within at_x;
+          ∙ ap (λ t. set before i (rest_of ring e x) ++ t ∷ []) c.scale-share.ensures
+          ∙ split_one (rest_of ring e) (share_of ring e) w i x within at_x;
       len = omega (arith, len, count);
     }
 
@@ -45,4 +45,4 @@ returns g c =
     let ring = g.R.Additive.ring in
     let e = g.R.Algebra.embed c.args.coordinate in
     let end : length c.args.table.now.items ≤ c.loop-i.i = omega (arith, c.loop-i-test.false, c.len-i-end.ensures) in
-    c.loop-i.invariant.items ∙ split_first-all (rest_at ring e) (share_at ring e) c.args.table.now.items c.loop-i.i end
+    c.loop-i.invariant.items ∙ split_first-all (rest_of ring e) (share_of ring e) c.args.table.now.items c.loop-i.i end

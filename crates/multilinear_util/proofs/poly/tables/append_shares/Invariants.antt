@@ -1,6 +1,6 @@
 use Rattle.std.proofs.Common.{◌≡◌, ◌+◌}
 use Rattle.std.specs.Vec.{vec_len}
-use Rattle.multilinear_util.specs.Shares.{share_at, rest_at}
+use Rattle.mlu_ring.specs.Shares.{share_of, rest_of}
 use Rattle.multilinear_util.proofs.Shares.{split_first}
 use Rattle.multilinear_util.proofs.poly.tables.append_shares.Given as goal
 
@@ -9,6 +9,6 @@ invariant-loop-i g l =
     let ring = g.R.Additive.ring in
     let c = g.R.Algebra.embed l.coordinate in
     record {
-      items : l.table.items ≡ split_first (rest_at ring c) (share_at ring c) l.i l.initial.table.items;
+      items : l.table.items ≡ split_first (rest_of ring c) (share_of ring c) l.i l.initial.table.items;
       len : vec_len l.table ≡ vec_len l.initial.table + l.i;
     }

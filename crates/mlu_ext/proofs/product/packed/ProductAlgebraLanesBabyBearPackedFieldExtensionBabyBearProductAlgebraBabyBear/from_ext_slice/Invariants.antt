@@ -3,7 +3,7 @@ use Rattle.std.proofs.Common.{◌≡◌, ◌<◌, ℕ, length, get_or}
 use Rattle.mlu_lanes.specs.LaneRing.{values_of, splat}
 use Rattle.mlu_lanes.specs.BabyBear.{baby_bear_ring}
 use Rattle.mlu_ext.specs.Product.{entries_of}
-use Rattle.mlu_lanes.specs.Columns.{column_of}
+use Rattle.mlu_ring.specs.Columns.{column_of}
 use Rattle.mlu_ext.proofs.product.packed.ProductAlgebraLanesBabyBearPackedFieldExtensionBabyBearProductAlgebraBabyBear.from_ext_slice.Given as goal
 
 abbrev pub invariant-loop-c : goal.invariant-loop-c
