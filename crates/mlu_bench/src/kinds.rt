@@ -48,12 +48,10 @@ pub fn sum_of_kind<F: ExtensionField<F>, EF: ExtensionField<F> + SelfAlgebra>(
             sum_of_calls(alloc, Ok(FoldCalls { table, r }), call, rounds)
         }
         9 => sum_of_calls(alloc, ValueCalls::new(alloc, case, call), call, rounds),
-        10 => sum_of_calls(
-            alloc,
-            CompressionCalls::new(alloc, &case, call),
-            call,
-            rounds,
-        ),
+        10 => {
+            let calls = CompressionCalls::new(alloc, &case, call);
+            sum_of_calls(alloc, calls, call, rounds)
+        }
         11 => sum_of_calls(alloc, Ok(SequenceCalls { case: &case }), call, rounds),
         12 if call == 2 => sum_of_calls(alloc, PackedSplitCalls::new(alloc, &case), call, rounds),
         12 => sum_of_calls(alloc, SplitCalls::new(alloc, &case), call, rounds),
