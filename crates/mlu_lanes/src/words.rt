@@ -6,7 +6,7 @@ use std::simd::prelude::*;
 
 /// The word in every lane.
 #[inline]
-pub fn all<const W: usize>(word: u32) -> Simd<u32, W>
+pub fn splat<const W: usize>(word: u32) -> Simd<u32, W>
     ensures { (j : ℕ) → j < W → slice_index result j ≡ word }
 {
     Simd::splat(word)
@@ -42,7 +42,7 @@ pub fn differences<const W: usize>(a: Simd<u32, W>, b: Simd<u32, W>) -> Simd<u32
 
 /// The lesser word of each lane.
 #[inline]
-pub fn least<const W: usize>(a: Simd<u32, W>, b: Simd<u32, W>) -> Simd<u32, W>
+pub fn lane_min<const W: usize>(a: Simd<u32, W>, b: Simd<u32, W>) -> Simd<u32, W>
     ensures { (j : ℕ) → j < W → slice_index result j ≡ min (slice_index a.entry j) (slice_index b.entry j) }
 {
     a.simd_min(b)
@@ -67,7 +67,7 @@ pub fn narrowed<const W: usize>(words: Simd<u64, W>) -> Simd<u32, W>
 
 /// The wide word in every lane.
 #[inline]
-pub fn wide_all<const W: usize>(word: u64) -> Simd<u64, W>
+pub fn wide_splat<const W: usize>(word: u64) -> Simd<u64, W>
     ensures { (j : ℕ) → j < W → slice_index result j ≡ word }
 {
     Simd::splat(word)
@@ -106,7 +106,7 @@ pub fn shifted_right<const W: usize>(words: Simd<u64, W>, bits: u64) -> Simd<u64
     requires { bits < 64 }
     ensures { (j : ℕ) → j < W → slice_index result j ≡ slice_index words.entry j / 2 ^ bits }
 {
-    each_shifted_right(words, wide_all(bits))
+    each_shifted_right(words, wide_splat(bits))
 }
 
 /// The lanes without their lowest bits, in each as many as its lane of `bits` says. Asks for fewer
@@ -124,7 +124,7 @@ fn each_shifted_right<const W: usize>(words: Simd<u64, W>, bits: Simd<u64, W>) -
 pub fn lower_halves<const W: usize>(words: Simd<u64, W>) -> Simd<u64, W>
     ensures { (j : ℕ) → j < W → slice_index result j ≡ slice_index words.entry j % 2 ^ 32 }
 {
-    masked(words, wide_all(4294967295))
+    masked(words, wide_splat(4294967295))
 }
 
 /// The bits of each lane that its mask has too.
@@ -137,7 +137,7 @@ fn masked<const W: usize>(words: Simd<u64, W>, mask: Simd<u64, W>) -> Simd<u64, 
 
 /// The words of both in turns: those of the first halves, and those of the last ones.
 #[inline]
-pub fn in_turns(a: Simd<u32, 4>, b: Simd<u32, 4>) -> (Simd<u32, 4>, Simd<u32, 4>)
+pub fn interleaved(a: Simd<u32, 4>, b: Simd<u32, 4>) -> (Simd<u32, 4>, Simd<u32, 4>)
     ensures first { AreEntries result.0 (slice_index a 0) (slice_index b 0) (slice_index a 1) (slice_index b 1) }
     ensures last { AreEntries result.1 (slice_index a 2) (slice_index b 2) (slice_index a 3) (slice_index b 3) }
 {
@@ -154,9 +154,9 @@ pub fn transposed(
     ensures third { IsColumn result.2 rows.now.0 rows.now.1 rows.now.2 rows.now.3 2 }
     ensures fourth { IsColumn result.3 rows.now.0 rows.now.1 rows.now.2 rows.now.3 3 }
 {
-    let (even_low, even_high) = in_turns(rows.0, rows.2);
-    let (odd_low, odd_high) = in_turns(rows.1, rows.3);
-    let (first, second) = in_turns(even_low, odd_low);
-    let (third, fourth) = in_turns(even_high, odd_high);
+    let (even_low, even_high) = interleaved(rows.0, rows.2);
+    let (odd_low, odd_high) = interleaved(rows.1, rows.3);
+    let (first, second) = interleaved(even_low, odd_low);
+    let (third, fourth) = interleaved(even_high, odd_high);
     (first, second, third, fourth)
 }

@@ -12,7 +12,7 @@ use super::rows::{elements_of, row_scaled, unreduced_rows};
 use super::{BabyBear, MODULUS};
 use crate::coefficients::Coefficients;
 use crate::words::{
-    lower_halves, shifted_right, sums, wide_all, wide_products, wide_sums, widened,
+    lower_halves, shifted_right, sums, wide_products, wide_splat, wide_sums, widened,
 };
 use std::simd::prelude::*;
 
@@ -101,8 +101,8 @@ fn column_times_few_rows<const W: usize, E: Coefficients<BabyBear<W>>>(
     ensures { (j : ℕ) → j < 4
         → slice_index result j ≡ canonical (product_of_columns (baby_bear_ring W) E.list l.now a r.now j) }
 {
-    let mut lows = wide_all(0);
-    let mut highs = wide_all(0);
+    let mut lows = wide_splat(0);
+    let mut highs = wide_splat(0);
     let groups = l.len() / GROUP;
     for g in 0..groups {
         let i = GROUP * g;
@@ -141,6 +141,6 @@ pub fn reduce_halves(lows: Simd<u64, 4>, highs: Simd<u64, 4>) -> Simd<u32, 4>
     requires { (j : ℕ) → j < 4 → slice_index lows j ≤ 2 ^ 62 }
     ensures { (j : ℕ) → j < 4 → slice_index result j ≡ (slice_index lows j + 2 ^ 32 * slice_index highs j) % MODULUS }
 {
-    let folded = wide_products(widened(reduce_each_word(highs)), wide_all(RADIX));
+    let folded = wide_products(widened(reduce_each_word(highs)), wide_splat(RADIX));
     reduce_each_word(wide_sums(folded, lows))
 }

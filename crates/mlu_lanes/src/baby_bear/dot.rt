@@ -8,7 +8,7 @@ use super::BabyBear;
 use super::columns::reduce_halves;
 use super::packed::residue_products;
 use super::rows::{elements_of, words_at};
-use crate::words::{lower_halves, shifted_right, wide_all, wide_sums};
+use crate::words::{lower_halves, shifted_right, wide_splat, wide_sums};
 use std::simd::prelude::*;
 
 /// The places whose products are summed in four lanes before they are split into halves.
@@ -42,8 +42,8 @@ fn dot_of_groups<const W: usize>(l: &[BabyBear<W>], r: &[BabyBear<W>], groups: u
     requires most { groups ≤ MOST_GROUPS }
     ensures { result ≡ pair (baby_bear_ring W) (take (GROUP * groups) l.now) r.now }
 {
-    let mut lows = wide_all(0);
-    let mut highs = wide_all(0);
+    let mut lows = wide_splat(0);
+    let mut highs = wide_splat(0);
     for g in 0..groups {
         let products = group_products_at(l, r, GROUP * g);
         lows = wide_sums(lows, lower_halves(products));

@@ -10,7 +10,8 @@ use super::reduce::reduce_product;
 use super::reduce_each::{RADIX, reduce_each_once};
 use super::{BabyBear, MODULUS};
 use crate::words::{
-    all, differences, least, lower_halves, narrowed, shifted_right, sums, wide_all, wide_products,
+    differences, lane_min, lower_halves, narrowed, shifted_right, splat, sums, wide_products,
+    wide_splat,
 };
 use std::simd::prelude::*;
 
@@ -106,7 +107,7 @@ fn low_quotients<const W: usize>(words: Simd<u64, W>) -> Simd<u64, W>
     requires { (j : ℕ) → j < W → slice_index words j < 2 ^ 64 }
     ensures { (j : ℕ) → j < W → slice_index result j ≡ slice_index words.entry j % 2 ^ 32 * INVERSE % 2 ^ 32 }
 {
-    lower_halves(wide_products(lower_halves(words), wide_all(INVERSE)))
+    lower_halves(wide_products(lower_halves(words), wide_splat(INVERSE)))
 }
 
 /// The upper halves of these multiples.
@@ -115,7 +116,7 @@ fn carried<const W: usize>(quotients: Simd<u64, W>) -> Simd<u32, W>
     requires { (j : ℕ) → j < W → slice_index quotients j < 2 ^ 32 }
     ensures { (j : ℕ) → j < W → slice_index result j ≡ slice_index quotients.entry j * MODULUS / 2 ^ 32 }
 {
-    let multiples = wide_products(quotients, wide_all(u64::from(MODULUS)));
+    let multiples = wide_products(quotients, wide_splat(u64::from(MODULUS)));
     narrowed(shifted_right(multiples, 32))
 }
 
@@ -135,5 +136,5 @@ fn residue_differences<const W: usize>(a: Simd<u32, W>, b: Simd<u32, W>) -> Simd
     ensures { (j : ℕ) → j < W → slice_index result j ≡ (slice_index a.entry j + MODULUS - slice_index b.entry j) % MODULUS }
 {
     let wrapped = differences(a, b);
-    least(wrapped, sums(wrapped, all(MODULUS)))
+    lane_min(wrapped, sums(wrapped, splat(MODULUS)))
 }

@@ -6,7 +6,7 @@ use super::montgomery::{reduce_prepared, reduce_prepared_products};
 use super::reduce_each::{reduce_each_product, reduce_each_word};
 use super::{BabyBear, MODULUS};
 use crate::lanes::Lanes;
-use crate::words::{all, wide_products, widened};
+use crate::words::{splat, wide_products, widened};
 use std::simd::prelude::*;
 
 /// The products of two packed values, unreduced: four of them add up to a word.
@@ -28,7 +28,7 @@ pub fn scaled<const W: usize>(p: &Lanes<BabyBear<W>, W>, factor: u32) -> Simd<u6
     ensures value { (j : ℕ) → j < W → slice_index result j ≡ residue p.now j * factor }
     ensures least { (j : ℕ) → j < W → slice_index result j < MODULUS * MODULUS }
 {
-    scaled_each(p, all(factor))
+    scaled_each(p, splat(factor))
 }
 
 /// The products with residues lane by lane, unreduced: four of them add up to a word.

@@ -4,8 +4,8 @@ ghost use Rattle.std.specs.Prelude.{◌≡◌, ℕ, ◌+◌, ◌*◌, ◌/◌, �
 use super::MODULUS;
 use super::reduce::RECIPROCAL;
 use crate::words::{
-    all, differences, least, lower_halves, narrowed, shifted_right, wide_all, wide_differences,
-    wide_products, wide_sums,
+    differences, lane_min, lower_halves, narrowed, shifted_right, splat, wide_differences,
+    wide_products, wide_splat, wide_sums,
 };
 use std::simd::prelude::*;
 
@@ -24,7 +24,7 @@ pub fn reduce_each_word<const W: usize>(words: Simd<u64, W>) -> Simd<u32, W>
 {
     let folded = folded(words);
     let quotients = folded_quotients(folded);
-    let multiples = wide_products(quotients, wide_all(u64::from(MODULUS)));
+    let multiples = wide_products(quotients, wide_splat(u64::from(MODULUS)));
     let rest = wide_differences(folded, multiples);
     reduce_each_once(narrowed(rest))
 }
@@ -37,7 +37,7 @@ fn folded<const W: usize>(words: Simd<u64, W>) -> Simd<u64, W>
 {
     let high = shifted_right(words, 32);
     let low = lower_halves(words);
-    let scaled = wide_products(high, wide_all(RADIX));
+    let scaled = wide_products(high, wide_splat(RADIX));
     wide_sums(scaled, low)
 }
 
@@ -48,7 +48,7 @@ fn folded_quotients<const W: usize>(folded: Simd<u64, W>) -> Simd<u64, W>
     ensures { (j : ℕ) → j < W → slice_index result j ≡ slice_index folded.entry j / 2 ^ 29 * RECIPROCAL / 2 ^ 33 }
 {
     let high = shifted_right(folded, 29);
-    let scaled = wide_products(high, wide_all(RECIPROCAL));
+    let scaled = wide_products(high, wide_splat(RECIPROCAL));
     shifted_right(scaled, 33)
 }
 
@@ -61,8 +61,8 @@ pub fn reduce_each_product<const W: usize>(words: Simd<u64, W>) -> Simd<u32, W>
     ensures { (j : ℕ) → j < W → slice_index result j ≡ slice_index words.entry j % MODULUS }
 {
     let high = lower_halves(shifted_right(words, 30));
-    let quotients = shifted_right(wide_products(high, wide_all(RECIPROCAL)), 32);
-    let multiples = wide_products(quotients, wide_all(u64::from(MODULUS)));
+    let quotients = shifted_right(wide_products(high, wide_splat(RECIPROCAL)), 32);
+    let multiples = wide_products(quotients, wide_splat(u64::from(MODULUS)));
     let rest = wide_differences(words, multiples);
     reduce_each_once(narrowed(rest))
 }
@@ -73,5 +73,5 @@ pub fn reduce_each_once<const W: usize>(words: Simd<u32, W>) -> Simd<u32, W>
     requires { (j : ℕ) → j < W → slice_index words j < 2 * MODULUS }
     ensures { (j : ℕ) → j < W → slice_index result j ≡ slice_index words.entry j % MODULUS }
 {
-    least(words, differences(words, all(MODULUS)))
+    lane_min(words, differences(words, splat(MODULUS)))
 }

@@ -9,7 +9,7 @@ use super::montgomery::reduce_prepared;
 use super::packed::residue_products;
 use super::reduce_each::{reduce_each_once, reduce_each_word};
 use super::{BabyBear, MODULUS};
-use crate::words::{all, spread, sums, wide_products, wide_sums, widened};
+use crate::words::{splat, spread, sums, wide_products, wide_sums, widened};
 use std::simd::prelude::*;
 
 /// Lane `j` is the residue of the sum of the products of `l` and lane `j` of the rows of the
@@ -164,12 +164,12 @@ pub fn prepared_sums_at<const W: usize>(
         → IsQuotient (slice_index result j) (four_products (residues_at l.now (k + j)) (first_four factors.now)) }
 {
     let low = wide_sums(
-        residue_products(words_at(l.0, k), all(factors[0])),
-        residue_products(words_at(l.1, k), all(factors[1])),
+        residue_products(words_at(l.0, k), splat(factors[0])),
+        residue_products(words_at(l.1, k), splat(factors[1])),
     );
     let high = wide_sums(
-        residue_products(words_at(l.2, k), all(factors[2])),
-        residue_products(words_at(l.3, k), all(factors[3])),
+        residue_products(words_at(l.2, k), splat(factors[2])),
+        residue_products(words_at(l.3, k), splat(factors[3])),
     );
     reduce_prepared(wide_sums(low, high))
 }

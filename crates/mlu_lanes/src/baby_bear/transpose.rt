@@ -10,7 +10,7 @@ use super::rows::{elements_of, put, words_at};
 use super::{BabyBear, MODULUS};
 use crate::coefficients::Coefficients;
 use crate::lanes::Lanes;
-use crate::words::{all, least, transposed};
+use crate::words::{lane_min, splat, transposed};
 use std::simd::prelude::*;
 
 /// What four coefficients, or four elements, have each.
@@ -98,5 +98,5 @@ fn kept_together(residues: Simd<u32, 4>) -> Simd<u32, 4>
     requires { (j : ℕ) → j < 4 → slice_index residues j < MODULUS }
     ensures { (j : ℕ) → j < 4 → slice_index result j ≡ slice_index residues j }
 {
-    least(residues, all(MODULUS - 1))
+    lane_min(residues, splat(MODULUS - 1))
 }

@@ -16,10 +16,10 @@ loop-g-init g c =
     let ring = baby_bear_ring g.row.W in
     record {
       value = λ j b.
-          (λ i. reduced (c.wide_all-lows.ensures j b i + 2 ^ 32 * c.wide_all-highs.ensures j b i))
+          (λ i. reduced (c.wide_splat-lows.ensures j b i + 2 ^ 32 * c.wide_splat-highs.ensures j b i))
           ∙ sym (pair-nil ring (baby_bear_laws g.row.W) (column_of (reduced 0) g.E.Coefficients.list c.args.r.now j));
-      low = λ j b. omega (arith, c.wide_all-lows.ensures j b);
-      high = λ j b. omega (arith, c.wide_all-highs.ensures j b);
+      low = λ j b. omega (arith, c.wide_splat-lows.ensures j b);
+      high = λ j b. omega (arith, c.wide_splat-highs.ensures j b);
     }
 
 pub loop-g-preserved : goal.loop-g-preserved

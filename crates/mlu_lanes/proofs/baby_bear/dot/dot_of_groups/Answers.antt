@@ -7,7 +7,7 @@ use Rattle.mlu_lanes.proofs.Dots.{no_lanes, more_lanes, lanes_reduced}
 use Rattle.mlu_lanes.proofs.baby_bear.dot.dot_of_groups.Goals as goal
 
 pub loop-g-init : goal.loop-g-init
-loop-g-init g c = no_lanes (product_at c.args.l.now c.args.r.now) c.wide_all-lows.result c.wide_all-highs.result c.wide_all-lows.ensures c.wide_all-highs.ensures
+loop-g-init g c = no_lanes (product_at c.args.l.now c.args.r.now) c.wide_splat-lows.result c.wide_splat-highs.result c.wide_splat-lows.ensures c.wide_splat-highs.ensures
 
 pub loop-g-preserved : goal.loop-g-preserved
 loop-g-preserved g c =

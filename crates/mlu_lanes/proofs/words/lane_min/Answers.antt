@@ -3,7 +3,7 @@ use Rattle.std.proofs.Common.{false, cond, ltb, get_or, ap, ◌∙◌, arith, w3
 use lib.Lanes.{zip2, sel_l}
 use Rattle.std.proofs.lemmas.Simd.{tops_compared, length-zip2, get_or-sel_l, get_or-zip2}
 use Rattle.std.proofs.lemmas.Bool.Decides.{nat_tests}
-use Rattle.mlu_lanes.proofs.words.least.Goals as goal
+use Rattle.mlu_lanes.proofs.words.lane_min.Goals as goal
 
 pub returns : goal.returns
 returns g c j lt =
