@@ -7,7 +7,10 @@ ghost use Rattle.mlu_kernel.specs.Kernels.{double_sum, HasDot};
 ghost use Rattle.mlu_eq.specs.Split.{contents, packed_sum};
 
 use super::constants::{FEW_CONSTANTS, MOST_CONSTANTS, are_constants, dot_of_rows_by_constants};
-use super::elements::{dot_of_rows_by_elements, goes_by_elements};
+use super::elements::{
+    FEW_ELEMENTS, MOST_ELEMENTS, dot_of_base_rows_by_elements, dot_of_rows_by_elements,
+    goes_by_elements, has_few_lanes,
+};
 use crate::half::{EqMaybePacked, Weights};
 use mlu_kernel::one_row::lane_sum;
 use mlu_kernel::{compress_hi_dot_packed, compress_hi_dot_packed_eager};
@@ -86,7 +89,8 @@ fn row_dot<F: Field, EF: ExtensionField<F>>(eq1: &EqMaybePacked<F, EF>, row: &[E
     }
 }
 
-/// The sum of the base entries, each times its packed weight, by the kernel that is faster.
+/// The sum of the base entries, each times its packed weight: by the elements in the lanes of a few
+/// weights, else by the kernel that is faster.
 #[inline]
 fn packed_dot<F: Field, EF: ExtensionField<F>>(
     eq0: &[EF],
@@ -97,7 +101,11 @@ fn packed_dot<F: Field, EF: ExtensionField<F>>(
     ensures { result ≡ double_sum EF.ring eq0.now
         (logical EF.ExtensionPacking.ext_lanes weights.now) (map EF.embed entries.now) }
 {
-    if entries.len() < FEW_ENTRIES {
+    if has_few_lanes::<F, EF>(weights.len(), FEW_ELEMENTS) {
+        dot_of_base_rows_by_elements::<F, EF, FEW_ELEMENTS>(eq0, weights, entries)
+    } else if has_few_lanes::<F, EF>(weights.len(), MOST_ELEMENTS) {
+        dot_of_base_rows_by_elements::<F, EF, MOST_ELEMENTS>(eq0, weights, entries)
+    } else if entries.len() < FEW_ENTRIES {
         compress_hi_dot_packed_eager(weights, entries, eq0)
     } else {
         compress_hi_dot_packed(weights, entries, eq0)
@@ -119,7 +127,7 @@ fn dot_of_rows<F: Field, EF: ExtensionField<F>>(eq0: &[EF], weights: &[EF], entr
 }
 
 /// [`dot_of_rows`], four products at a time.
-fn dot_of_rows_by_groups<F: Field, EF: ExtensionField<F>>(
+pub(super) fn dot_of_rows_by_groups<F: Field, EF: ExtensionField<F>>(
     eq0: &[EF],
     weights: &[EF],
     entries: &[F],
