@@ -13,7 +13,8 @@ pub enum Fault {
     Number,
     /// The number of entries is no power of two, or a table would have too many.
     Length,
-    /// The number of coordinates is not that of the variables.
+    /// The number of coordinates or challenges is not that of the variables, or there is no variable to
+    /// fold.
     Arity,
     /// Memory was refused.
     Memory,

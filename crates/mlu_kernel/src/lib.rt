@@ -6,9 +6,10 @@
 //! joined in order. [`packed_basis_dot`] gives dots of packed values, whose products a meter makes.
 //!
 //! Each of the first three has an eager form, which reduces each product at once and serves every
-//! width and dimension. With at most 128 packed weights of 1 to 8 coefficients dots go by columns of
-//! coefficients, and with lanes in fours the prefix kernel by four rows, where elements are small
-//! enough for the stack: both reduce once per four products. None of them takes memory.
+//! width and dimension. The fast forms reduce once for four products: dots go by columns of
+//! coefficients where there are at most 128 packed weights of 1 to 8 coefficients, and the prefix
+//! kernel goes by four rows where the number of lanes is a multiple of four. Both keep elements on
+//! the stack, so these have to be small. None of the calls takes memory.
 #![tactic(auto)]
 
 mod basis_dot;

@@ -6,7 +6,7 @@ ghost use Rattle.std.specs.Mem.{type_size};
 use crate::basis_split::{MOST_COEFFICIENTS, MOST_WEIGHTS};
 
 /// The bytes that an element must stay below, so that what the kernels keep on the stack takes
-/// less than two megabytes. Packed residues have 32 at eight lanes.
+/// less than two megabytes. Packed residues of eight lanes have 32 bytes.
 pub const SMALL_BYTES: usize = 1024;
 
 const _: () = prove!((MOST_COEFFICIENTS + 2) * MOST_WEIGHTS * SMALL_BYTES < 2 << 20);

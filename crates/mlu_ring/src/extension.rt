@@ -41,8 +41,8 @@ pub trait ExtensionField<F: Field>: Field + Algebra<F> {
         ensures { coefficients self.new ≡ slice_set (coefficients self.old) k c };
 
     /// The element whose coefficient `k` is `f(k)`. `f` is called once for each of 0, 1, .. in
-    /// order, in the state that the call before left. Asks that each of these calls is allowed
-    /// wherever those before it lead.
+    /// order, in the state that the call before left. Asks that `f` accepts each of these numbers in
+    /// every state that the calls before it can leave.
     final fn from_coefficients_fn<G: FnMut(usize) -> F>(mut f: G) -> Self
         requires { AreAllowed (λ s k. G.pre s k) (λ s k c t. G.step s k c t) DIMENSION f }
         ensures { AnswersInTurn (λ s k c t. G.step s k c t) DIMENSION

@@ -7,8 +7,9 @@ use std::ops::Range;
 /// Row `j` of the slice cut into `rows` rows, whose length is the quotient. Asks that `j` is below
 /// `rows`.
 ///
-/// Clauses `exact` and `size` serve a caller who knows that the values are rows of `n` each, and so
-/// does not divide by a number of rows that may be 0.
+/// It takes the number of rows, not their length: that is a product in many callers, which may
+/// overflow where there are no rows. Clauses `exact` and `size` are for callers who know that the
+/// values are rows of `n` each.
 #[inline]
 pub fn row_of<T>(values: &[T], rows: usize, j: usize) -> &[T]
     requires { j < rows }

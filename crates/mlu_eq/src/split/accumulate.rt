@@ -140,7 +140,8 @@ pub(super) fn takes_elements<F: Field, EF: ExtensionField<F>>() -> bool
     F::Packing::WIDTH <= MOST_LANES && is_small(&EF::ZERO)
 }
 
-/// [`add_lanes`] by way of the elements of a group: the output is not turned into lanes and back.
+/// [`add_lanes`] by way of the elements of a group: the output is not turned into lanes and back, and
+/// what is stored as two vectors is not loaded as one, which is slow.
 ///
 /// Asks for room for the lanes of a packing. What it then holds is not promised.
 #[inline]

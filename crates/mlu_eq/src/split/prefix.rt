@@ -21,7 +21,7 @@ use mlu_ring::{
 /// with zeros.
 const FEW_PLACES: usize = 8;
 
-/// The size of the next longer one, enough for most outputs.
+/// The size of the next longer array, which serves outputs of up to 1024 entries at eight lanes.
 const MANY_PLACES: usize = 128;
 
 /// With more packed places than these an output is added to entry by entry.
