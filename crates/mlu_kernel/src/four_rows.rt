@@ -3,7 +3,7 @@
 //! Each coefficient of an output grows by the weighted coefficients of four rows at once, which
 //! [`Field::mixed_dot4`] sums before it reduces. Rows are read from front to back, and the sums
 //! stand in the output, so no memory is taken.
-ghost use Rattle.std.specs.Prelude.{◌≡◌, ◌+◌, ◌*◌, ◌%◌, ◌≤◌, ◌<◌, IsTrue, length};
+ghost use Rattle.std.specs.Prelude.{◌≡◌, ◌↔◌, ◌+◌, ◌*◌, ◌%◌, ◌≤◌, ◌<◌, IsTrue, length};
 ghost use Rattle.std.specs.Mem.{type_size};
 ghost use Rattle.mlu_ring.specs.Lanes.{splat_of};
 ghost use Rattle.mlu_ring.specs.Matrices.{row_at};
@@ -24,7 +24,7 @@ const FOUR: usize = 4;
 /// once the types are known.
 #[inline]
 pub(crate) fn takes_fours<F: Field, EF: ExtensionField<F>>() -> bool
-    ensures { IsTrue result → (F.Packing.WIDTH % 4 ≡ 0) × AreSmall F.row F.Packing.row EF.row }
+    ensures { IsTrue result ↔ (F.Packing.WIDTH % 4 ≡ 0) × AreSmall F.row F.Packing.row EF.row }
 {
     F::Packing::WIDTH % 4 == 0
         && is_small(&F::ZERO)
