@@ -8,7 +8,7 @@ use Rattle.mlu_ring.specs.Ring.{Ring}
 use Rattle.mlu_ring.specs.Lanes.{IsLists, IsLaneByLane, logical}
 use Rattle.mlu_ring.proofs.Logical.{block-logical, take-logical, drop-logical}
 use Rattle.mlu_ring.proofs.Zips.{zip2-append}
-use Rattle.mlu_kernel.proofs.PlusRows.{lanes-splat_product}
+use Rattle.mlu_ring.proofs.LaneProducts.{lanes-splat_product}
 
 module _ {P V : Type 0} (lanes : P → List V) (n : ℕ) (long : (p : P) → length (lanes p) ≡ n) where
   -- the lanes of values of which block i of m is written: the loop counts the block as end less start

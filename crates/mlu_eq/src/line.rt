@@ -39,8 +39,7 @@ pub fn interpolate_packing<F: Field, EF: ExtensionField<F>>(
     high: F::Packing,
     r: EF,
 ) -> EF::ExtensionPacking
-    ensures { result ≡ interpolated_images EF.ExtensionPacking.ring ⟦<EF::ExtensionPacking as Algebra<EF>>⟧.embed
-        ⟦<EF::ExtensionPacking as Algebra<F::Packing>>⟧.embed r low high }
+    ensures { EF.ExtensionPacking.ext_lanes result ≡ interpolated_images EF.ring EF.embed r (F.Packing.lanes low) (F.Packing.lanes high) }
 {
     scale_packing::<F, EF>(r, high - low).plus(low)
 }

@@ -31,11 +31,13 @@ map-four f (w ∷ x ∷ y ∷ z ∷ []) a b c d r s t u h ea eb ec ed er es et e
 map-four f xs a b c d r s t u h ea eb ec ed er es et eu = absurd (omega arith)
 
 -- four coefficients, each grown by its term
-pub grown-four : {P : Type 0} (f : P → P → P) (old : List P) (term : ℕ → P) (a b c d z : P) → length old ≡ 4
-    → a ≡ f (get_or old 0 z) (term 0) → b ≡ f (get_or old 1 z) (term 1) → c ≡ f (get_or old 2 z) (term 2) → d ≡ f (get_or old 3 z) (term 3)
+pub grown-four : {P : Type 0} (f : P → P → P) (old : List P) (term : ℕ → P) (p q r s a b c d z : P) → length old ≡ 4
+    → p ≡ get_or old 0 z → q ≡ get_or old 1 z → r ≡ get_or old 2 z → s ≡ get_or old 3 z
+    → a ≡ f p (term 0) → b ≡ f q (term 1) → c ≡ f r (term 2) → d ≡ f s (term 3)
     → (a ∷ b ∷ c ∷ d ∷ []) ≡ zip2 f old (tabulate 4 term)
-grown-four f (p ∷ q ∷ r ∷ s ∷ []) term a b c d z long is_a is_b is_c is_d = (λ i. is_a i ∷ is_b i ∷ is_c i ∷ is_d i ∷ [])
-grown-four f old term a b c d z long is_a is_b is_c is_d = absurd (omega arith)
+grown-four f (t ∷ u ∷ v ∷ w ∷ []) term p q r s a b c d z long at_p at_q at_r at_s is_a is_b is_c is_d =
+    (λ i. is_a i ∷ is_b i ∷ is_c i ∷ is_d i ∷ []) ∙ (λ i. f (at_p i) (term 0) ∷ f (at_q i) (term 1) ∷ f (at_r i) (term 2) ∷ f (at_s i) (term 3) ∷ [])
+grown-four f old term p q r s a b c d z long at_p at_q at_r at_s is_a is_b is_c is_d = absurd (omega arith)
 
 module _ {B E P Q : Type 0} {base : Ring B} {ext : Ring E} {packing : Ring P} {packed : Ring Q} {width dimension : ℕ} {lanes : P → List B} {of_lanes : List B → P} {coefficients : E → List B} {ext_lanes : Q → List E} {of_ext_lanes : List E → Q} {packed_coefficients : Q → List P} {of_packed_coefficients : List P → Q} {embed : B → E} {embed_packing : P → Q} (laws : IsPackedExtension base ext packing packed width dimension lanes of_lanes coefficients ext_lanes of_ext_lanes packed_coefficients of_packed_coefficients embed embed_packing) (embed_element : E → Q) (in_each_lane : (x : E) → ext_lanes (embed_element x) ≡ replicate width x) where
   -- the dot of weights and blocks, as packed values

@@ -1,11 +1,10 @@
 -- Weighted rows added to a list.
 use Rattle.std.proofs.Common.{◌≡◌, ℕ, ◌+◌, ◌*◌, ◌/◌, ◌<◌, List, [], ◌∷◌, ◌++◌, map, length, take, drop, set, get_or, replicate, refl, sym, ap, ◌∙◌, arith}
-use mathlib.Core.Path.{fun_ext}
 use Rattle.std.specs.Simd.Lanes.{zip2}
 use Rattle.std.proofs.Math.Nat.{mul-div_cancel_left, mul_assoc}
 use Rattle.std.proofs.lemmas.List.{ext_get_or, get_or-take, get_or-drop, get_or-map, length-map, length-take-le, take_more, map-append, take-map, drop-map}
 use Rattle.std.proofs.lemmas.List.FromFn.{get_or-map-range_with_len, length-map-range_with_len}
-use Rattle.std.proofs.lemmas.Simd.{length-zip2, get_or-zip2, zip2_splat, zip2_splat_left}
+use Rattle.std.proofs.lemmas.Simd.{length-zip2, get_or-zip2}
 use Rattle.mlu_ring.specs.Ring.{Ring, RingLaws}
 use Rattle.mlu_ring.specs.Sums.{sum_below}
 use Rattle.mlu_ring.specs.Tables.{front}
@@ -14,6 +13,7 @@ use Rattle.mlu_ring.proofs.Rings.{sum_zero}
 use Rattle.mlu_ring.proofs.Joined.{front-entry}
 use Rattle.mlu_ring.proofs.Rows.{place-within}
 use Rattle.mlu_ring.proofs.SumsBelow.{sum_below-same, sum_below-zero}
+use Rattle.mlu_ring.proofs.LaneProducts.{lanes-product_splat}
 use Rattle.mlu_ring.proofs.Logical.{length-logical, logical-take_more, zip_block_more}
 use Rattle.mlu_ring.proofs.Totals.{sum_below-one, weighted-append}
 use Rattle.mlu_kernel.specs.Kernels.{plus_rows}
@@ -110,32 +110,16 @@ module _ {R : Type 0} (ring : Ring R) (laws : RingLaws ring) where
       ∙ ap (λ k. x ⊗ get_or e k 𝟘) (sym at)
       ∙ sym (sum_below-one ring laws (λ y. get_or (x ∷ []) y 𝟘 ⊗ get_or e (y * length old + z) 𝟘))))
 
--- the product with one value in every lane
-module _ {P V : Type 0} (packed : Ring P) (ring : Ring V) (lanes : P → List V) (of_lanes : List V → P) (n : ℕ) (parts : IsLists n lanes of_lanes) (each : IsLaneByLane n lanes packed ring) where
-  pub lanes-splat_product : (q b : P) (x : V) → lanes q ≡ replicate n x → lanes (packed.product q b) ≡ map (ring.product x) (lanes b)
-  lanes-splat_product q b x is = each.product q b ∙ ap (λ vs. zip2 ring.product vs (lanes b)) is ∙ zip2_splat_left ring.product x n (lanes b) (parts.length-parts b)
-
 module _ {P V : Type 0} (packed : Ring P) (ring : Ring V) (laws : RingLaws ring) (lanes : P → List V) (of_lanes : List V → P) (n : ℕ) (parts : IsLists n lanes of_lanes) (each : IsLaneByLane n lanes packed ring) where
   -- the loop that adds one row, packed value by packed value
-  pub row_more : (ps : List P) (old e : List V) (z : ℕ) (x : V) (p q b : P) → z < length ps → length old ≡ length ps * n → length old ≡ length e
+  pub row_more : (ps : List P) (old e : List V) (z : ℕ) (x : V) (p b : P) → z < length ps → length old ≡ length ps * n → length old ≡ length e
       → logical lanes ps ≡ zip2 ring.sum (take (z * n) old) (take (z * n) (map (ring.product x) e)) ++ drop (z * n) old
-      → p ≡ get_or ps z p → lanes q ≡ replicate n x → lanes b ≡ take n (drop (z * n) e)
-      → logical lanes (set ps z (packed.sum p (packed.product q b))) ≡ zip2 ring.sum (take ((z + 1) * n) old) (take ((z + 1) * n) (map (ring.product x) e)) ++ drop ((z + 1) * n) old
-  row_more ps old e z x p q b h many long is at_p at_q at_b =
-      let block : lanes (packed.product q b) ≡ take n (drop (z * n) (map (ring.product x) e)) =
-      lanes-splat_product packed ring lanes of_lanes n parts each q b x at_q
-      ∙ ap (map (ring.product x)) at_b
-      ∙ sym (take-map (ring.product x) n (drop (z * n) e))
-      ∙ ap (λ vs. take n vs) (sym (drop-map (ring.product x) (z * n) e)) in
-      zip_block_more lanes n parts.length-parts ring.sum ps old (map (ring.product x) e) z p (packed.sum p (packed.product q b)) h many (long ∙ sym (length-map e (ring.product x))) is at_p
-      (each.sum p (packed.product q b) ∙ ap (λ vs. zip2 ring.sum (lanes p) vs) block)
-
-  pub lanes-product_splat : (p b : P) (x : V) → lanes b ≡ replicate n x → lanes (packed.product p b) ≡ map (ring.product x) (lanes p)
-  lanes-product_splat p b x is =
-      each.product p b
-      ∙ ap (λ vs. zip2 ring.product (lanes p) vs) is
-      ∙ zip2_splat ring.product (lanes p) n x (parts.length-parts p)
-      ∙ ap (λ f. map f (lanes p)) (fun_ext (λ y. laws.product_comm y x))
+      → p ≡ get_or ps z p → lanes b ≡ map (ring.product x) (take n (drop (z * n) e))
+      → logical lanes (set ps z (packed.sum p b)) ≡ zip2 ring.sum (take ((z + 1) * n) old) (take ((z + 1) * n) (map (ring.product x) e)) ++ drop ((z + 1) * n) old
+  row_more ps old e z x p b h many long is at_p at_b =
+      let block = at_b ∙ sym (take-map (ring.product x) n (drop (z * n) e)) ∙ ap (λ vs. take n vs) (sym (drop-map (ring.product x) (z * n) e)) in
+      zip_block_more lanes n parts.length-parts ring.sum ps old (map (ring.product x) e) z p (packed.sum p b) h many (long ∙ sym (length-map e (ring.product x))) is at_p
+      (each.sum p b ∙ ap (λ vs. zip2 ring.sum (lanes p) vs) block)
 
   -- one more packed weight, scaled, with a row for each of its lanes
   pub rows_more : (ps : List P) (old e between : List V) (i r : ℕ) (x : V) (p b : P) → i < length ps → r ≡ n * length old
@@ -146,7 +130,7 @@ module _ {P V : Type 0} (packed : Ring P) (ring : Ring V) (laws : RingLaws ring)
       let s = length old in
       let v = map (ring.product x) (logical lanes (take i ps)) in
       let w = lanes (packed.product p b) in
-      let scaled = lanes-product_splat p b x at_b ∙ ap (λ q. map (ring.product x) (lanes q)) at_p in
+      let scaled = lanes-product_splat packed ring laws lanes of_lanes n parts each p b x at_b ∙ ap (λ q. map (ring.product x) (lanes q)) at_p in
       let first : length (map (ring.product x) (logical lanes (take i ps))) ≡ i * n =
       length-map (logical lanes (take i ps)) (ring.product x) ∙ length-logical lanes n parts.length-parts (take i ps) ∙ ap (λ k. k * n) (length-take-le i ps (omega arith)) in
       let many : r ≡ length (lanes (packed.product p b)) * length old = size ∙ ap (λ k. k * length old) (sym (parts.length-parts (packed.product p b))) in

@@ -1,9 +1,10 @@
 -- The coefficients of packed weights, one list for each coefficient.
-use Rattle.std.specs.Prelude.{◌≡◌, ◌<◌, ◌≤◌, ℕ, List, map, length, take, slice_index_or}
+use Rattle.std.specs.Prelude.{◌≡◌, ◌<◌, ◌≤◌, ℕ, List, map, length, take}
 use Rattle.std.specs.Borrow.{RattleType}
 use Rattle.std.specs.List.{All, range_with_len}
 use Rattle.std.specs.Mem.{type_size}
 use Rattle.mlu_ring.specs.Columns.{column_of}
+use Rattle.mlu_ring.specs.Lanes.{splat_of}
 use Rattle.mlu_ring.specs.Ring.{Ring}
 use Rattle.mlu_ring.specs.Tables.{pair}
 use Rattle.mlu_kernel.specs.declared.basis_split.TheConstants.{MOST_WEIGHTS, MOST_COEFFICIENTS}
@@ -13,9 +14,9 @@ use Rattle.mlu_kernel.specs.declared.small.TheConstants.{SMALL_BYTES}
 abbrev pub columns : {Q P : Type 0} → (Q → List P) → P → List Q → ℕ → List (List P)
 columns coefficients zero weights dimension = map (λ c. column_of zero coefficients weights c) (range_with_len 0 dimension)
 
--- coefficient k of the old value, plus the products of the blocks with coefficient k of their weights, splat
-abbrev pub grown : {F E P : Type 0} → Ring P → (F → P) → (E → List F) → F → ℕ → List P → List P → List E → P
-grown ring splat coefficients zero k old blocks weights = ring.sum (slice_index_or old k ring.zero) (pair ring blocks (map splat (column_of zero coefficients weights k)))
+-- the sum, plus the products of the blocks with factors that stand in every lane
+abbrev pub grown : {F P : Type 0} → Ring P → ℕ → (List F → P) → P → List P → List F → P
+grown ring width of_lanes sum blocks factors = ring.sum sum (pair ring blocks (map (splat_of width of_lanes) factors))
 
 -- elements of the three types take few bytes
 abbrev pub AreSmall : RattleType → RattleType → RattleType → Type 0

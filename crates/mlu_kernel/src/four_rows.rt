@@ -5,7 +5,7 @@
 //! stand in the output, so no memory is taken.
 ghost use Rattle.std.specs.Prelude.{◌≡◌, ◌↔◌, ◌+◌, ◌*◌, ◌%◌, ◌≤◌, ◌<◌, IsTrue, length};
 ghost use Rattle.std.specs.Mem.{type_size};
-ghost use Rattle.mlu_ring.specs.Lanes.{splat_of};
+ghost use Rattle.mlu_ring.specs.Columns.{column_of};
 ghost use Rattle.mlu_ring.specs.Matrices.{row_at};
 ghost use Rattle.mlu_kernel.specs.Columns.{grown, AreSmall};
 ghost use Rattle.mlu_kernel.specs.Kernels.{AddsBlocks, AddsRows, AddsRowsByLane};
@@ -127,24 +127,24 @@ fn plus_four_products<F: Field, EF: ExtensionField<F>>(
 {
     if EF::DIMENSION == FOUR {
         return packed_of_four::<F, EF>(
-            grown_coefficient::<F, EF>(packed, blocks, weights, 0),
-            grown_coefficient::<F, EF>(packed, blocks, weights, 1),
-            grown_coefficient::<F, EF>(packed, blocks, weights, 2),
-            grown_coefficient::<F, EF>(packed, blocks, weights, 3),
+            grown_coefficient::<F, EF>(packed.packed_coefficient(0), blocks, weights, 0),
+            grown_coefficient::<F, EF>(packed.packed_coefficient(1), blocks, weights, 1),
+            grown_coefficient::<F, EF>(packed.packed_coefficient(2), blocks, weights, 2),
+            grown_coefficient::<F, EF>(packed.packed_coefficient(3), blocks, weights, 3),
         );
     }
     let mut sum = packed;
     for k in 0..EF::DIMENSION {
-        let grown = grown_coefficient::<F, EF>(sum, blocks, weights, k);
+        let grown = grown_coefficient::<F, EF>(sum.packed_coefficient(k), blocks, weights, k);
         sum.set_packed_coefficient(k, grown);
     }
     sum
 }
 
-/// Coefficient `k` of `packed`, plus that of the sum of the blocks, each times its weight.
+/// `sum` plus the blocks, each times coefficient `k` of its weight.
 #[inline(always)]
 fn grown_coefficient<F: Field, EF: ExtensionField<F>>(
-    packed: EF::ExtensionPacking,
+    sum: F::Packing,
     blocks: &[F::Packing],
     weights: &[EF],
     k: usize,
@@ -153,8 +153,8 @@ fn grown_coefficient<F: Field, EF: ExtensionField<F>>(
     requires blocks { length blocks.now ≡ 4 }
     requires weights { length weights.now ≡ 4 }
     requires small { type_size F.row < SMALL_BYTES }
-    ensures { result ≡ grown F.Packing.ring (splat_of F.Packing.WIDTH F.Packing.of_lanes) EF.coefficients F.ring.zero k
-        (EF.ExtensionPacking.packed_coefficients packed) blocks.now weights.now }
+    ensures { result ≡ grown F.Packing.ring F.Packing.WIDTH F.Packing.of_lanes sum blocks.now
+        (column_of F.ring.zero EF.coefficients weights.now k) }
 {
     let coefficients = [
         weights[0].coefficient(k),
@@ -162,5 +162,5 @@ fn grown_coefficient<F: Field, EF: ExtensionField<F>>(
         weights[2].coefficient(k),
         weights[3].coefficient(k),
     ];
-    packed.packed_coefficient(k) + F::mixed_dot4(blocks, &coefficients)
+    sum + F::mixed_dot4(blocks, &coefficients)
 }

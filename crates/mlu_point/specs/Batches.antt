@@ -77,8 +77,8 @@ abbrev pub four_image : {C P : Type 0} → (C → P) → C → (P × P) × (P ×
 four_image image = pair_image (pair_image image)
 
 -- the lanes, joined in order, of the batch of the points in the columns of a view, where the share of each is four packed values
-abbrev pub packed_batch : {C P V : Type 0} → (P → List V) → Ring P → (C → P) → RowMajorMatrixView C → List P → List V
-packed_batch lanes ring image evals shares =
+abbrev pub groups : {C P V : Type 0} → (P → List V) → Ring P → (C → P) → RowMajorMatrixView C → List P → List V
+groups lanes ring image evals shares =
     logical (four_lanes lanes) (batch (four_ring ring) (map (four_image image) evals.values.now) (fours shares) (2 ^ (length evals.values.now / evals.width)))
 
 -- the scale times each weight at the point in column i of values in rows of so many

@@ -7,4 +7,3 @@ pub mod Powers
 pub mod Steps
 pub mod Rules
 pub mod Batches
-pub mod Splats

@@ -26,6 +26,7 @@ pub mod EntrywiseLaws
 pub mod Resized
 pub mod Tabulated
 pub mod LaneMaps
+pub mod LaneProducts
 pub mod PackedCoefficients
 pub mod TrivialExtension
 pub mod Modulo

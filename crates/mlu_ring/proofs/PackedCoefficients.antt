@@ -1,10 +1,11 @@
 -- The packed coefficients of sums, and of products with packed values of the base.
 use Rattle.std.proofs.Common.{◌≡◌, ℕ, ◌<◌, List, map, length, get_or, replicate, sym, ap, ◌∙◌}
 use Rattle.std.specs.Simd.Lanes.{zip2}
-use Rattle.std.proofs.lemmas.List.{ext_get_or, get_or-map, get_or-replicate, length-replicate}
-use Rattle.std.proofs.lemmas.Simd.{get_or-zip2}
+use Rattle.std.proofs.lemmas.List.{ext_get_or, get_or-map, get_or-replicate, length-map, length-replicate}
+use Rattle.std.proofs.lemmas.Simd.{get_or-zip2, zip2_splat_left}
 use Rattle.mlu_ring.specs.Ring.{Ring, RingLaws}
 use Rattle.mlu_ring.specs.Lanes.{IsLists, IsLaneByLane, splat_of}
+use Rattle.mlu_ring.proofs.EntrywiseLaws.{map-replicate, zip-comm}
 use Rattle.mlu_ring.proofs.Rings.{sum_zero, sum_cancel}
 
 -- the laws of a packed extension Q of E: its lanes are elements of E, and its coefficients packed values P of the base B
@@ -132,15 +133,28 @@ module _ {B E P Q : Type 0} {base : Ring B} {ext : Ring E} {packing : Ring P} {p
       ∙ lists.whole-parts q
 
   -- a packed value whose coefficients are those of another, each times a packed value of the base
-  pub scaled_each : (p q : Q) (f : P) → ((c : ℕ) → c < dimension → get_or (packed_coefficients q) c packing.zero ≡ packing.product (get_or (packed_coefficients p) c packing.zero) f) → q ≡ packed.product p (embed_packing f)
-  scaled_each p q f each = by_coefficients q (packed.product p (embed_packing f)) (λ c h. each c h ∙ sym (coefficient-scale p f c h))
+  pub scaled_each : (p q : Q) (f : P) → ((c : ℕ) → c < dimension → get_or (packed_coefficients q) c packing.zero ≡ packing.product (get_or (packed_coefficients p) c packing.zero) f) → ext_lanes q ≡ zip2 ext.product (ext_lanes p) (map embed (lanes f))
+  scaled_each p q f each =
+      ap ext_lanes (by_coefficients q (packed.product p (embed_packing f)) (λ c h. each c h ∙ sym (coefficient-scale p f c h)))
+      ∙ laws.ext_lane_by_lane.product p (embed_packing f)
+      ∙ ap (zip2 ext.product (ext_lanes p)) (laws.embeds_packing f)
+
+  -- or an element of the base, in every lane
+  pub scaled_by_base : (p q : Q) (x : B) → ((c : ℕ) → c < dimension → get_or (packed_coefficients q) c packing.zero ≡ packing.product (get_or (packed_coefficients p) c packing.zero) (splat_of width of_lanes x)) → ext_lanes q ≡ map (ext.product (embed x)) (ext_lanes p)
+  scaled_by_base p q x each =
+      scaled_each p q (splat_of width of_lanes x) each
+      ∙ ap (λ l. zip2 ext.product (ext_lanes p) l) (ap (map embed) (laws.lanes_are.parts-whole (replicate width x) (length-replicate width x)) ∙ map-replicate embed x width)
+      ∙ zip-comm ext.product laws.ext_laws.product_comm (ext_lanes p) (replicate width (embed x))
+      ∙ zip2_splat_left ext.product (embed x) width (ext_lanes p) (laws.ext_lanes_are.length-parts p)
 
   -- or a packed value of the base, times each coefficient of an element
   pub scaled_by_element : (embed_element : E → Q) → ((x : E) → ext_lanes (embed_element x) ≡ replicate width x) → (x : E) (q : Q) (f : P)
-      → ((c : ℕ) → c < dimension → get_or (packed_coefficients q) c packing.zero ≡ packing.product f (splat_of width of_lanes (get_or (coefficients x) c base.zero))) → q ≡ packed.product (embed_element x) (embed_packing f)
+      → ((c : ℕ) → c < dimension → get_or (packed_coefficients q) c packing.zero ≡ packing.product f (splat_of width of_lanes (get_or (coefficients x) c base.zero))) → ext_lanes q ≡ map (ext.product x) (map embed (lanes f))
   scaled_by_element embed_element in_each_lane x q f each =
       scaled_each (embed_element x) q f
       (λ c h.
       each c h
       ∙ laws.packing_laws.product_comm f (splat_of width of_lanes (get_or (coefficients x) c base.zero))
       ∙ ap (λ t. packing.product t f) (sym (coefficient-splat embed_element in_each_lane x c h)))
+      ∙ ap (λ l. zip2 ext.product l (map embed (lanes f))) (in_each_lane x)
+      ∙ zip2_splat_left ext.product x width (map embed (lanes f)) (length-map (lanes f) embed ∙ laws.lanes_are.length-parts f)

@@ -2,7 +2,7 @@
 ghost use Rattle.std.specs.Prelude.{◌≡◌, ◌<◌, ℕ, List, [], ◌∷◌, length, map, replicate, slice_index_or, slice_set};
 ghost use Rattle.std.specs.Simd.Lanes.{zip2};
 ghost use Rattle.mlu_ring.specs.Calls.{AreAllowed, AnswersInTurn};
-ghost use Rattle.mlu_ring.specs.Lanes.{IsLists, IsLaneByLane, IsTransposed, logical, splat_of};
+ghost use Rattle.mlu_ring.specs.Lanes.{IsLists, IsLaneByLane, IsTransposed, logical};
 
 use crate::additive::Additive;
 use crate::algebra::Algebra;
@@ -149,8 +149,8 @@ pub fn scale_by_packing<F: Field, EF: ExtensionField<F>>(
     packed: EF::ExtensionPacking,
     factor: F::Packing,
 ) -> EF::ExtensionPacking
-    ensures { result ≡ EF.ExtensionPacking.ring.product packed
-        (⟦<EF::ExtensionPacking as Algebra<F::Packing>>⟧.embed factor) }
+    ensures { EF.ExtensionPacking.ext_lanes result
+        ≡ zip2 EF.ring.product (EF.ExtensionPacking.ext_lanes packed) (map EF.embed (F.Packing.lanes factor)) }
 {
     let mut scaled = packed;
     for k in 0..EF::DIMENSION {
@@ -186,8 +186,7 @@ pub fn scale_by_base<F: Field, EF: ExtensionField<F>>(
     packed: EF::ExtensionPacking,
     factor: F,
 ) -> EF::ExtensionPacking
-    ensures { result ≡ EF.ExtensionPacking.ring.product packed
-        (⟦<EF::ExtensionPacking as Algebra<F::Packing>>⟧.embed (splat_of F.Packing.WIDTH F.Packing.of_lanes factor)) }
+    ensures { EF.ExtensionPacking.ext_lanes result ≡ map (EF.ring.product (EF.embed factor)) (EF.ExtensionPacking.ext_lanes packed) }
 {
     if EF::DIMENSION == FOUR {
         return packed_of_four::<F, EF>(
@@ -212,8 +211,7 @@ pub fn scale_packing<F: Field, EF: ExtensionField<F>>(
     element: EF,
     factor: F::Packing,
 ) -> EF::ExtensionPacking
-    ensures { result ≡ EF.ExtensionPacking.ring.product (⟦<EF::ExtensionPacking as Algebra<EF>>⟧.embed element)
-        (⟦<EF::ExtensionPacking as Algebra<F::Packing>>⟧.embed factor) }
+    ensures { EF.ExtensionPacking.ext_lanes result ≡ map (EF.ring.product element) (map EF.embed (F.Packing.lanes factor)) }
 {
     if EF::DIMENSION == FOUR {
         return packed_of_four::<F, EF>(

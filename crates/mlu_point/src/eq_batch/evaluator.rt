@@ -66,18 +66,14 @@ impl<B: Additive, R: Algebra<B>> EqualityEvaluator<B, R> for BaseFieldEvaluator 
 }
 
 impl<F: Field, EF: ExtensionField<F>> PackedEvaluator<F, F, EF> for BaseFieldEvaluator {
-    ghost use Rattle.mlu_ring.specs.Lanes.{splat_of};
-    ghost use Rattle.mlu_point.specs.Splats.{lanes-of_splat};
-
-    ghost packed_image = { λ c. ⟦<EF::ExtensionPacking as Algebra<F::Packing>>⟧.embed (splat_of F.Packing.WIDTH F.Packing.of_lanes c) };
+    ghost packed_image = { λ c. ⟦<EF::ExtensionPacking as Algebra<EF>>⟧.embed (EF.embed c) };
 
     #[inline]
     fn multiply_packed(share: EF::ExtensionPacking, coordinate: F) -> EF::ExtensionPacking {
         scale_by_base::<F, EF>(share, coordinate)
     }
 
-    ghost in_every_lane = { lanes-of_splat F.Packing.lanes_are EF.ExtensionPacking.ext_lanes
-        ⟦<EF::ExtensionPacking as Algebra<F::Packing>>⟧.embed EF.embed EF.ExtensionPacking.embeds_packing };
+    ghost in_every_lane = { λ c. EF.ExtensionPacking.embeds_element (EF.embed c) };
 }
 
 /// The evaluator of the packed shares.

@@ -4,7 +4,7 @@ ghost use Rattle.std.specs.Prelude.{◌≡◌, ◌+◌, ◌*◌, ◌/◌, ◌<�
 ghost use Rattle.mlu_ring.specs.Lanes.{logical};
 ghost use Rattle.mlu_ring.specs.Matrices.{left_by};
 ghost use Rattle.mlu_point.specs.Batches.{column_weights, share_places, ArePacked};
-ghost use Rattle.mlu_point.specs.Batches.{four_lanes, packed_batch, pair_lanes, two_pairs, with_batch};
+ghost use Rattle.mlu_point.specs.Batches.{four_lanes, groups, pair_lanes, two_pairs, with_batch};
 
 use super::evaluator::{EqualityEvaluator, InLanes, PackedEvaluator};
 use super::fours::{FOUR, split_fours, sum_of_fours};
@@ -47,7 +47,7 @@ pub(super) fn add_chunk<
     let (middle, last) = evals.split_rows(evals.height() - left);
     let (shares, space) = packed.split_at_mut(FOUR * scalars.len());
     pack_shares::<F, EF, C, E>(shares, lanes, last, scalars);
-    add_groups::<F, EF, C, E, INITIALIZED>(middle, shares, space, out);
+    add_groups::<F, EF, C, InLanes<F, EF, E>, INITIALIZED>(middle, shares, space, out);
 }
 
 /// Writes the share of each point: in lane `k` of its values, joined in order, its scalar times the
@@ -115,7 +115,7 @@ fn add_groups<
     F: Field,
     EF: ExtensionField<F>,
     C: Additive,
-    E: PackedEvaluator<F, C, EF>,
+    E: EqualityEvaluator<C, EF::ExtensionPacking>,
     const INITIALIZED: bool,
 >(
     evals: RowMajorMatrixView<'_, C>,
@@ -128,7 +128,7 @@ fn add_groups<
     requires space { length space.old ≡ 4 * length evals.values.now }
     requires size { length out.old ≡ 2 ^ (length evals.values.now / evals.width) * (4 * F.Packing.WIDTH) }
     ensures { out.new ≡ left_by EF.ring INITIALIZED out.old
-        (packed_batch EF.ExtensionPacking.ext_lanes EF.ExtensionPacking.ring E.packed_image evals.entry shares.old) }
+        (groups EF.ExtensionPacking.ext_lanes EF.ExtensionPacking.ring E.image evals.entry shares.old) }
 {
     if evals.height() == 0 {
         write_or_add_four::<F, EF, INITIALIZED>(out, &sum_of_fours(shares));
@@ -136,7 +136,7 @@ fn add_groups<
     }
     let (first, others) = evals.split_rows(1);
     let (high_shares, space) = space.split_at_mut(shares.len());
-    split_fours::<C, EF::ExtensionPacking, InLanes<F, EF, E>>(shares, high_shares, first.values);
+    split_fours::<C, EF::ExtensionPacking, E>(shares, high_shares, first.values);
     let half = out.len() / 2;
     let (low, high) = out.split_at_mut(half);
     add_groups::<F, EF, C, E, INITIALIZED>(others, high_shares, space, high);

@@ -13,4 +13,4 @@ returns g c =
     c.index-weights-0.is c.index-weights-1.is c.index-weights-2.is c.index-weights-3.is
     (c.coefficient.ensures zero) (c.coefficient-2.ensures zero) (c.coefficient-3.ensures zero) (c.coefficient-4.ensures zero) in
     let products = c.mixed_dot4.ensures ∙ ap (λ cs. pair packing c.args.blocks.now (map splat cs)) read in
-    g.met.F.Packing.Additive.adds _ _ _ c.add.ensures ∙ (λ i. packing.sum (c.packed_coefficient.ensures packing.zero i) (products i))
+    g.met.F.Packing.Additive.adds _ _ _ c.add.ensures ∙ ap (packing.sum c.args.sum) products

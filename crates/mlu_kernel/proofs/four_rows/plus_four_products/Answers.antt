@@ -1,6 +1,5 @@
 use Rattle.std.proofs.Common.{◌≡◌, ◌<◌, ◌∙◌, ℕ, map, length, get_or, sym, ap, arith}
 use Rattle.std.specs.Simd.Lanes.{zip2}
-use Rattle.std.proofs.lemmas.List.{get_or_default}
 use Rattle.mlu_ring.specs.Lanes.{splat_of}
 use Rattle.mlu_ring.specs.Tables.{pair}
 use Rattle.mlu_ring.proofs.Tabulated.{tabulate, length-tabulate, get_or-tabulate}
@@ -24,7 +23,9 @@ returns-then-DIMENSION-eq-FOUR g c =
     let four : g.EF.ExtensionField.DIMENSION ≡ 4 = omega (arith, c.DIMENSION.ensures, c.if-DIMENSION-eq-FOUR.true) in
     plus_rows-products laws g.EF.ExtensionPacking.Algebra-1.embed met.embeds_element c.args.packed c.packed_of_four.result ws bs (c.requires.weights ∙ sym c.requires.blocks)
     (c.packed_of_four.ensures
-    ∙ grown-four packing.sum old term _ _ _ _ packing.zero (met.coefficients_are.length-parts c.args.packed ∙ four)
+    ∙ grown-four packing.sum old term _ _ _ _ _ _ _ _ packing.zero (met.coefficients_are.length-parts c.args.packed ∙ four)
+    (c.packed_coefficient.ensures packing.zero) (c.packed_coefficient-then-DIMENSION-eq-FOUR.ensures packing.zero)
+    (c.packed_coefficient-then-DIMENSION-eq-FOUR-2.ensures packing.zero) (c.packed_coefficient-then-DIMENSION-eq-FOUR-3.ensures packing.zero)
     c.grown_coefficient.ensures c.grown_coefficient-then-DIMENSION-eq-FOUR.ensures c.grown_coefficient-then-DIMENSION-eq-FOUR-2.ensures c.grown_coefficient-then-DIMENSION-eq-FOUR-3.ensures
     ∙ ap (λ n. zip2 packing.sum old (tabulate n term)) (sym four))
 
@@ -34,17 +35,14 @@ loop-k-preserved g c =
     let base = g.F.Packing.PackedValue in
     let dimension = g.EF.ExtensionField.DIMENSION in
     let k = c.loop-k.k in
-    let between = g.EF.ExtensionPacking.PackedFieldExtension.packed_coefficients c.loop-k.sum in
     let old = g.EF.ExtensionPacking.PackedFieldExtension.packed_coefficients c.args.packed in
     let products = products_of g.F.Additive.ring packing base.WIDTH base.of_lanes dimension g.EF.ExtensionField.coefficients c.args.weights.now c.args.blocks.now in
     let long = g.met.EF.ExtensionPacking.PackedFieldExtension.coefficients_are.length-parts c.args.packed in
-    let same = g.met.EF.ExtensionPacking.PackedFieldExtension.coefficients_are.length-parts c.loop-k.sum in
     let below : c.loop-k.k < g.EF.ExtensionField.DIMENSION = omega (arith, c.DIMENSION-k-end.ensures) in
     let within : c.loop-k.k < length (g.EF.ExtensionPacking.PackedFieldExtension.packed_coefficients c.args.packed) = omega (arith, long, below) in
-    let within_sum : c.loop-k.k < length (g.EF.ExtensionPacking.PackedFieldExtension.packed_coefficients c.loop-k.sum) = omega (arith, same, below) in
     c.set_packed_coefficient.ensures
-    ∙ zip_step packing.sum old products _ k (get_or between k packing.zero) _ c.grown_coefficient-grown.result within (long ∙ sym (length-tabulate dimension _)) c.loop-k.invariant
-    (get_or_default between k packing.zero _ within_sum)
+    ∙ zip_step packing.sum old products _ k c.packed_coefficient-in-loop-k.result _ c.grown_coefficient-grown.result within (long ∙ sym (length-tabulate dimension _)) c.loop-k.invariant
+    (c.packed_coefficient-in-loop-k.ensures c.packed_coefficient-in-loop-k.result)
     (sym (get_or-tabulate dimension _ k _ below))
     c.grown_coefficient-grown.ensures
 

@@ -1,4 +1,4 @@
-use Rattle.std.proofs.Common.{◌≡◌, ◌*◌, ◌∙◌, map, set, length, ap, sym, arith}
+use Rattle.std.proofs.Common.{◌≡◌, ◌*◌, ◌∙◌, map, set, length, refl, ap, sym, arith}
 use Rattle.std.proofs.lemmas.List.{length-map}
 use Rattle.mlu_ring.specs.Lanes.{logical}
 use Rattle.mlu_ring.proofs.Logical.{length-logical}
@@ -16,21 +16,20 @@ load-block-requires g c = ap length c.row_of_width.ensures ∙ length-row_at _ _
 
 pub loop-z-preserved : goal.loop-z-preserved
 loop-z-preserved g c =
+    let ring = g.EF.Additive.ring in
     let embed = g.EF.Algebra.embed in
     let n = g.F.Packing.PackedValue.WIDTH in
     let packed = g.EF.ExtensionPacking.Additive.ring in
     let ext = g.EF.ExtensionPacking.PackedFieldExtension in
     let met = g.met.EF.ExtensionPacking.PackedFieldExtension in
     let many = length-logical ext.ext_lanes n met.lanes_are.length-parts c.args.out.now in
-    let weights = g.EF.ExtensionPacking.Algebra-1.embed c.args.weight in
-    let block = block-embedded embed c.args.row.now c.loop-z.z c.WIDTH.result n c.row_of_width.result.now (g.F.Packing.PackedValue.lanes c.load-block.result) (ext.ext_lanes (g.EF.ExtensionPacking.Algebra-2.embed c.load-block.result))
-    (met.embeds_packing c.load-block.result) c.load-block.ensures c.row_of_width.ensures c.WIDTH.ensures in
-    let added = g.met.EF.ExtensionPacking.Additive.adds c.index-out-z.result c.scale_packing.result c.add.result c.add.ensures ∙ ap (packed.sum c.index-out-z.result) c.scale_packing.ensures in
-    ap (λ p. logical ext.ext_lanes (set c.loop-z.out c.loop-z.z p)) added
-    ∙ row_more packed g.EF.Additive.ring g.met.EF.Additive.laws ext.ext_lanes ext.of_ext_lanes n met.lanes_are met.lane_by_lane
-    c.loop-z.out (logical ext.ext_lanes c.args.out.now) (map embed c.args.row.now) c.loop-z.z c.args.weight c.index-out-z.result weights (g.EF.ExtensionPacking.Algebra-2.embed c.load-block.result)
+    let loaded = g.F.Packing.PackedValue.lanes c.load-block.result in
+    let block = block-embedded embed c.args.row.now c.loop-z.z c.WIDTH.result n c.row_of_width.result.now loaded (map embed loaded) refl c.load-block.ensures c.row_of_width.ensures c.WIDTH.ensures in
+    ap (λ p. logical ext.ext_lanes (set c.loop-z.out c.loop-z.z p)) (g.met.EF.ExtensionPacking.Additive.adds c.index-out-z.result c.scale_packing.result c.add.result c.add.ensures)
+    ∙ row_more packed ring g.met.EF.Additive.laws ext.ext_lanes ext.of_ext_lanes n met.lanes_are met.lane_by_lane
+    c.loop-z.out (logical ext.ext_lanes c.args.out.now) (map embed c.args.row.now) c.loop-z.z c.args.weight c.index-out-z.result c.scale_packing.result
     (omega arith) (many ∙ ap (λ k. k * n) (sym c.loop-z.auto.out)) (many ∙ sym (length-map c.args.row.now embed ∙ c.requires))
-    c.loop-z.invariant c.index-out-z.is (met.embeds_element c.args.weight) block
+    c.loop-z.invariant c.index-out-z.is (c.scale_packing.ensures ∙ ap (map (ring.product c.args.weight)) block)
 
 pub returns : goal.returns
 returns g c =

@@ -1,7 +1,7 @@
 use Rattle.std.proofs.Common.{◌≡◌, ℕ, ◌<◌, ◌∙◌, length, get_or, ap, arith}
 use Rattle.mlu_ring.specs.Lanes.{splat_of}
 use Rattle.mlu_ring.proofs.Filled.{filled_by_next, four-at}
-use Rattle.mlu_ring.proofs.PackedCoefficients.{packed_extension, scaled_each}
+use Rattle.mlu_ring.proofs.PackedCoefficients.{packed_extension, scaled_by_base}
 use Rattle.mlu_ring.proofs.extension.scale_by_base.Goals as goal
 
 pub returns-then-DIMENSION-eq-FOUR : goal.returns-then-DIMENSION-eq-FOUR
@@ -20,7 +20,7 @@ returns-then-DIMENSION-eq-FOUR g c =
     (c.lanes_scale-then-DIMENSION-eq-FOUR.ensures ∙ ap of (c.packed_coefficient-then-DIMENSION-eq-FOUR.ensures packing.zero))
     (c.lanes_scale-then-DIMENSION-eq-FOUR-2.ensures ∙ ap of (c.packed_coefficient-then-DIMENSION-eq-FOUR-2.ensures packing.zero))
     (c.lanes_scale-then-DIMENSION-eq-FOUR-3.ensures ∙ ap of (c.packed_coefficient-then-DIMENSION-eq-FOUR-3.ensures packing.zero)) in
-    scaled_each laws c.args.packed c.packed_of_four.result splat (λ j h. each j (omega (arith, h, four)))
+    scaled_by_base laws c.args.packed c.packed_of_four.result c.args.factor (λ j h. each j (omega (arith, h, four)))
 
 pub loop-k-preserved : goal.loop-k-preserved
 loop-k-preserved g c =
@@ -36,9 +36,8 @@ loop-k-preserved g c =
 
 pub returns : goal.returns
 returns g c =
-    let splat = splat_of g.F.Packing.PackedValue.WIDTH g.F.Packing.PackedValue.of_lanes c.args.factor in
     let met = g.met.EF.ExtensionPacking.PackedFieldExtension in
     let laws = packed_extension g.met.F.Packing.PackedValue.lanes_are g.met.F.Lanewise.lane_by_lane g.met.F.Packing.Additive.laws
     g.met.EF.Additive.laws g.met.EF.ExtensionField.coefficients_are g.met.EF.ExtensionField.coefficients_sum g.met.EF.ExtensionField.coefficients_scale
     g.met.EF.ExtensionPacking.Additive.laws met.lanes_are met.lane_by_lane met.embeds_packing met.coefficients_are met.transposed in
-    scaled_each laws c.args.packed c.loop-k.scaled splat (λ j h. c.loop-k.invariant j (omega (arith, c.DIMENSION-k-end.ensures)))
+    scaled_by_base laws c.args.packed c.loop-k.scaled c.args.factor (λ j h. c.loop-k.invariant j (omega (arith, c.DIMENSION-k-end.ensures)))

@@ -4,7 +4,8 @@ use Rattle.std.proofs.lemmas.List.{take-map, drop-map, length-take-le}
 use Rattle.std.proofs.Math.Nat.{mul_assoc}
 use Rattle.mlu_ring.specs.Lanes.{logical}
 use Rattle.mlu_kernel.specs.Kernels.{plus_rows}
-use Rattle.mlu_kernel.proofs.PlusRows.{length-plus_rows, lanes-product_splat}
+use Rattle.mlu_ring.proofs.LaneProducts.{lanes-product_splat}
+use Rattle.mlu_kernel.proofs.PlusRows.{length-plus_rows}
 use Rattle.mlu_eq.proofs.Borders.{rows_but_last, groups_within, plus_rows-leading}
 use Rattle.mlu_eq.proofs.Lengths.{last_place}
 use Rattle.mlu_eq.proofs.split.shifted.add_leading_lane_rows.Goals as goal

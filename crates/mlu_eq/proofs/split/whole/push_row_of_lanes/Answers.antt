@@ -3,7 +3,7 @@ use Rattle.std.proofs.Math.Nat.{mul-le-mul_right}
 use Rattle.std.proofs.lemmas.List.{map-append}
 use Rattle.mlu_ring.specs.Lanes.{logical}
 use Rattle.mlu_ring.proofs.Logical.{logical-take_more}
-use Rattle.mlu_kernel.proofs.PlusRows.{lanes-splat_product}
+use Rattle.mlu_ring.proofs.LaneProducts.{lanes-splat_product}
 use Rattle.mlu_eq.proofs.split.whole.push_row_of_lanes.Goals as goal
 
 pub push_lanes-requires : goal.push_lanes-requires

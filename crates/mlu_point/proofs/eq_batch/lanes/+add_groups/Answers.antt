@@ -18,9 +18,9 @@ returns-then-height-eq0 g t c =
     let shares = pairs (pairs c.args.shares.now) in
     let many = length-fours c.args.shares.now c.args.evals.width c.requires.shares in
     group-none (2 * (2 * width)) (pair_lanes (pair_lanes lanes)) (pair_ring (pair_ring ring)) g.EF.Additive.ring (pair_laws (pair_ring ring) (pair_laws ring g.met.EF.ExtensionPacking.Additive.laws))
-    (pair_long (2 * width) (pair_lanes lanes) (pair_ring ring) g.EF.Additive.ring (pair_long width lanes ring g.EF.Additive.ring long)) (pair_image (pair_image g.E.PackedEvaluator.packed_image))
+    (pair_long (2 * width) (pair_lanes lanes) (pair_ring ring) g.EF.Additive.ring (pair_long width lanes ring g.EF.Additive.ring long)) (pair_image (pair_image g.E.EqualityEvaluator.image))
     _ vs shares c.args.out.now c.write_or_add_four.new.out _ _ _ (sym many) c.height.ensures c.if-height-eq0.true c.sum_of_fours.ensures c.write_or_add_four.ensures
-    ∙ ap (λ n. left_by g.EF.Additive.ring _ c.args.out.now (logical (pair_lanes (pair_lanes lanes)) (batch (pair_ring (pair_ring ring)) (map (pair_image (pair_image g.E.PackedEvaluator.packed_image)) vs) shares (2 ^ (length vs / n))))) many
+    ∙ ap (λ n. left_by g.EF.Additive.ring _ c.args.out.now (logical (pair_lanes (pair_lanes lanes)) (batch (pair_ring (pair_ring ring)) (map (pair_image (pair_image g.E.EqualityEvaluator.image)) vs) shares (2 ^ (length vs / n))))) many
 
 pub add_groups-requires : goal.add_groups-requires
 add_groups-requires g t c =
@@ -56,7 +56,7 @@ returns g t c =
     let ring = packing.Additive.ring in
     let width = g.F.Packing.PackedValue.WIDTH in
     let long = g.met.EF.ExtensionPacking.PackedFieldExtension.lanes_are.length-parts in
-    let image = pair_image (pair_image g.E.PackedEvaluator.packed_image) in
+    let image = pair_image (pair_image g.E.EqualityEvaluator.image) in
     let four = pair_ring (pair_ring ring) in
     let four_lanes = pair_lanes (pair_lanes lanes) in
     let vs = c.args.evals.values.now in
