@@ -121,7 +121,7 @@ if [ "${1:-}" = --refusals ]; then
 fi
 
 refusals mlu_refusals
-refusals mlu
+refusals mlu_command_tests
 faulty 2 'mlu: length' -- eval 1,2,3 2
 faulty 2 'mlu: usage' -- sumcheck 3,4 2 5 6
 faulty 3 'mlu: memory' --fail-alloc 1 -- eval 1,2,3,4 2,3

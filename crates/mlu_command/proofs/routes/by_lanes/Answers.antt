@@ -1,0 +1,22 @@
+use Rattle.std.proofs.Common.{◌^◌, ◌<◌, ◌≤◌, ◌∙◌, map, length, ap, arith, rules}
+use Rattle.multilinear_util.specs.Split.{split_entries}
+use Rattle.multilinear_util.specs.Views.{entries}
+use Rattle.mlu_ring.specs.Tables.{pair}
+use Rattle.multilinear_util.proofs.Splits.{half_fits, pair-unit}
+use Rattle.mlu_command.proofs.routes.by_lanes.Goals as goal
+
+pub new_packed-requires : goal.new_packed-requires
+new_packed-requires g c =
+    let long : length (entries c.as_view-view.result) < 2 ^ 64 = search rules in
+    let same = ap length c.as_view-view.ensures in
+    let whole : 2 ^ length c.args.point.now ≤ length (entries c.as_view-view.result) = omega (arith, same, c.requires) in
+    half_fits (length c.args.point.now) (length (entries c.as_view-view.result)) whole long
+
+pub returns : goal.returns
+returns g c =
+    let ring = g.EF.Additive.ring in
+    let whole = split_entries ring c.in_ok-split.split in
+    c.eval_base.ensures
+    ∙ ap (λ e. pair ring whole (map g.EF.Algebra.embed e)) c.as_view-view.ensures
+    ∙ pair-unit ring g.met.EF.Additive.laws c.ONE.result c.args.point.now whole (map g.EF.Algebra.embed c.args.table.now)
+    (c.ONE.ensures ∙ g.met.EF.Additive.one_is) c.in_ok-split.ensures.value
