@@ -1,0 +1,111 @@
+//! Elements made of their coefficients one after the other.
+ghost use Rattle.std.specs.Prelude.{◌≡◌, ◌<◌, length};
+
+use super::Row::{Counted, Listed};
+use super::{Bear, quartic};
+use crate::rings::Row::Extensions;
+use crate::rings::{copies, quartics};
+use mlu_ext::ProductAlgebra;
+use mlu_ring::{Additive, ExtensionField, Field, Lanewise, PackedFieldExtension, PackedValue};
+use mlu_test_support::lanes::lanes;
+use mlu_test_support::lists::filled;
+use mlu_test_support::numbers::elements;
+use std::alloc::{AllocError, Global};
+use std::test::Fail;
+
+/// Whether `element` has the coefficients 1, 2, .., and `sum` is that of all lanes of two packed elements with the
+/// coefficients (1, 2, 3, 4), (2, 4, 6, 8), ..
+pub fn counts<F: Field, EF: ExtensionField<F>>(
+    alloc: Global,
+    element: EF,
+    sum: EF,
+) -> Result<bool, AllocError> {
+    if F::Packing::WIDTH != 4 {
+        return Ok(false);
+    }
+    let step = F::Packing::load(&elements::<F>(alloc, &[1, 2, 3, 4])?);
+    let (mut last, mut last_lanes) = (F::ZERO, F::Packing::ZERO);
+    let counted = EF::from_coefficients_fn(|_k| {
+        last = last + F::ONE;
+        last
+    });
+    let packed = EF::ExtensionPacking::from_packed_coefficients_fn(|_k| {
+        last_lanes = last_lanes + step;
+        last_lanes
+    });
+    let twice = filled(alloc, packed, 2)?;
+    let mut total = EF::ZERO;
+    for lane in &lanes::<F, EF>(alloc, &twice)? {
+        total = total + *lane;
+    }
+    Ok(counted == element && total == sum)
+}
+
+/// The element with these coefficients, which are read by their numbers.
+fn of_list<F: Field, EF: ExtensionField<F>>(coefficients: &[F]) -> EF
+    requires { length coefficients.now ≡ EF.DIMENSION }
+{
+    EF::from_coefficients_fn(
+        |k|
+            requires { k < length coefficients.now }
+        { coefficients[k] },
+    )
+}
+
+/// The packed value with these coefficients, which are read by their numbers.
+fn of_packed_list<F: Field, EF: ExtensionField<F>>(
+    coefficients: &[F::Packing],
+) -> EF::ExtensionPacking
+    requires { length coefficients.now ≡ EF.DIMENSION }
+{
+    EF::ExtensionPacking::from_packed_coefficients_fn(
+        |k|
+            requires { k < length coefficients.now }
+        { coefficients[k] },
+    )
+}
+
+/// Whether `element` has the coefficients 1, 2, 3, 4, alone and in the last of four lanes.
+pub fn lists<F: Field, EF: ExtensionField<F>>(
+    alloc: Global,
+    element: EF,
+) -> Result<bool, AllocError> {
+    if F::Packing::WIDTH != 4 || EF::DIMENSION != 4 {
+        return Ok(false);
+    }
+    let coefficients = elements::<F>(alloc, &[1, 2, 3, 4])?;
+    let in_lanes = [
+        F::Packing::splat(coefficients[0]),
+        F::Packing::splat(coefficients[1]),
+        F::Packing::splat(coefficients[2]),
+        F::Packing::splat(coefficients[3]),
+    ];
+    let packed = of_packed_list::<F, EF>(&in_lanes);
+    Ok(of_list::<F, EF>(&coefficients) == element && packed.ext_lane(3) == element)
+}
+
+#[test]
+fn quartics_of_lists(rt: HostRuntime) -> Result<(), Fail> {
+    let element = quartic(1, 2, 3, 4);
+    assert!(rt; quartics::<4>(rt.alloc(), Extensions(Listed(element)))?);
+    Ok(())
+}
+
+#[test]
+fn quartics_counted(rt: HostRuntime) -> Result<(), Fail> {
+    let (element, sum) = (quartic(1, 2, 3, 4), quartic(20, 40, 60, 80));
+    assert!(rt; quartics::<4>(rt.alloc(), Extensions(Counted(element, sum)))?);
+    Ok(())
+}
+
+#[test]
+fn nine_copies_counted(rt: HostRuntime) -> Result<(), Fail> {
+    let numbers = [1, 2, 3, 4, 5, 6, 7, 8, 9].map(Bear::from_u32);
+    let sums = [20, 40, 60, 80, 100, 120, 140, 160, 180].map(Bear::from_u32);
+    let (element, sum) = (
+        ProductAlgebra::from_array(numbers),
+        ProductAlgebra::from_array(sums),
+    );
+    assert!(rt; copies::<4, 9>(rt.alloc(), Extensions(Counted(element, sum)))?);
+    Ok(())
+}

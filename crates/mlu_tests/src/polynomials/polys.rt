@@ -1,0 +1,107 @@
+//! Sizes, views, copies and draws.
+
+use super::{FieldRow, Row};
+use crate::rings::Row::{Polynomials, Residues};
+use crate::rings::{quartics, residues};
+use mlu_ring::{Additive, PrimeCharacteristicRing, Sample};
+use mlu_test_support::numbers::{are, element};
+use mlu_test_tables::table;
+use multilinear_util::poly::{Poly, PolyView};
+use rand_pcg::Pcg32;
+use std::alloc::{AllocError, Global};
+use std::test::Fail;
+
+/// Whether a polynomial has the sizes, entries and copies that it is to have.
+pub fn owns<R: Additive>(alloc: Global) -> Result<bool, AllocError> {
+    let poly = table::<R>(alloc, &[1, 2, 3, 4])?;
+    let copy = poly.try_clone(alloc)?;
+    Ok(
+        poly.num_evals() == 4
+            && poly.num_variables() == 2
+            && poly.as_constant().is_none()
+            && poly.as_slice().last() == Some(&element(4))
+            && poly.iter().count() == 4
+            && copy == poly
+            && copy.as_view() == poly.as_view()
+            && are_added(&poly, copy)
+            && poly.into_evals().len() == 4,
+    )
+}
+
+/// Whether the entries of both, lent and given, add up to 20.
+fn are_added<R: Additive>(lent: &Poly<R>, given: Poly<R>) -> bool {
+    let mut sum = R::ZERO;
+    for entry in lent {
+        sum = sum + *entry;
+    }
+    for entry in given {
+        sum = sum + entry;
+    }
+    sum == element(20)
+}
+
+/// Whether a constant and the zero polynomial are what they are to be.
+pub fn is_constant<R: PrimeCharacteristicRing>(alloc: Global) -> Result<bool, AllocError> {
+    let poly = table::<R>(alloc, &[7])?;
+    let zero = Poly::<R>::zero(alloc, 3)?;
+    Ok(
+        poly.num_variables() == 0
+            && poly.as_constant() == Some(element(7))
+            && are(zero.as_slice(), &[0; 8]),
+    )
+}
+
+#[test]
+fn constants(rt: HostRuntime) -> Result<(), Fail> {
+    assert!(rt; quartics::<1>(rt.alloc(), Polynomials(Row::Constants))?);
+    assert!(rt; quartics::<4>(rt.alloc(), Polynomials(Row::Constants))?);
+    Ok(())
+}
+
+/// The entries of a polynomial whose view is gone.
+fn entries_of<F: Copy>(poly: &Poly<F>) -> &[F] {
+    poly.as_view().as_view().into_slice()
+}
+
+/// Whether views show what is viewed.
+pub fn is_viewed<R: Additive>(alloc: Global) -> Result<bool, AllocError> {
+    let poly = table::<R>(alloc, &[1, 2])?;
+    let view = PolyView::new(poly.as_slice());
+    let copy = view;
+    Ok(
+        copy == poly.as_view()
+            && view.num_evals() == 2
+            && view.num_variables() == 1
+            && view.as_constant().is_none()
+            && view.iter().count() == 2
+            && view.as_slice().len() == 2
+            && entries_of(&poly).len() == 2,
+    )
+}
+
+#[test]
+fn owned_and_viewed(rt: HostRuntime) -> Result<(), Fail> {
+    assert!(rt; residues::<4>(rt.alloc(), Residues(FieldRow::Owned))?);
+    assert!(rt; residues::<4>(rt.alloc(), Residues(FieldRow::Views))?);
+    Ok(())
+}
+
+/// Whether two draws differ, and the values of the first are drawn in order.
+pub fn draws_two<R: PartialEq + Copy + Sample>(alloc: Global) -> Result<bool, AllocError> {
+    let mut rng = Pcg32::new(1, 54);
+    let first = Poly::<R>::rand(alloc, &mut rng, 3)?;
+    let second = Poly::<R>::rand(alloc, &mut rng, 3)?;
+    let mut again = Pcg32::new(1, 54);
+    for value in first.as_slice() {
+        if *value != R::sample(&mut again) {
+            return Ok(false);
+        }
+    }
+    Ok(first.num_evals() == 8 && first != second)
+}
+
+#[test]
+fn draws(rt: HostRuntime) -> Result<(), Fail> {
+    assert!(rt; residues::<4>(rt.alloc(), Residues(FieldRow::Draws))?);
+    Ok(())
+}

@@ -1,8 +1,0 @@
-//! Tests of `multilinear_util`, from outside.
-//!
-//! A crate of its own, so that `multilinear_util` is proved once and stands on no ring but `mlu_ring`'s
-//! traits; nothing stands on it.
-#![tactic(auto)]
-
-#[cfg(test)]
-mod tests;
