@@ -1,4 +1,4 @@
-//! The examples of docs/layers, one a layer; the README has that of polynomials.
+//! The examples of the README and of docs/layers.
 use mlu_eq::{eval_base, fold_prefix_in_place};
 use mlu_ext::QuarticExtension;
 use mlu_lanes::{BabyBear, Lanes};
