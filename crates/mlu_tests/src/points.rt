@@ -110,6 +110,7 @@ fn values_at_points(rt: HostRuntime) -> Result<(), Fail> {
 #[test]
 fn batches_of_points(rt: HostRuntime) -> Result<(), Fail> {
     assert!(rt; quartics_alone(rt.alloc(), Row::Batches)?);
+    assert!(rt; residues::<1>(rt.alloc(), Points(Row::Batches))?);
     assert!(rt; residues::<2>(rt.alloc(), Points(Row::Batches))?);
     assert!(rt; copies::<4, 2>(rt.alloc(), Points(Row::Batches))?);
     Ok(())
