@@ -209,17 +209,18 @@ fn sumcheck(variables: usize) {
     one_round(variables, &poly, &weights, values[0], |number| operands.repeated((ROUNDS, number)));
 }
 
+const ONE_ROUND: [&str; 5] = [
+    "sumcheck round of a claim and fold, and copies",
+    "sumcheck round and fold, and copies",
+    "sumcheck fold, and copies",
+    "sumcheck copies",
+    "sumcheck one pass",
+];
+
 /// A round and its fold, with its claim known and without, beside the fold alone and one pass over both
 /// tables, interleaved.
 fn one_round<'a>(variables: usize, poly: &'a [Ext], weights: &'a [Ext], r: Ext, library: impl Fn(u32) -> Repeated<'a>) {
-    let names = [
-        "sumcheck round of a claim and fold, and copies",
-        "sumcheck round and fold, and copies",
-        "sumcheck fold, and copies",
-        "sumcheck copies",
-        "sumcheck one pass",
-    ];
-    if !names.iter().any(|name| is_wanted(name, variables)) {
+    if !ONE_ROUND.iter().any(|name| is_wanted(name, variables)) {
         return;
     }
     let copies = || black_box([poly.to_vec(), weights.to_vec()]);
@@ -250,7 +251,7 @@ fn one_round<'a>(variables: usize, poly: &'a [Ext], weights: &'a [Ext], r: Ext, 
         repeated(|| plain::products(poly, weights)), library(1),
     ];
     let times = times(variables, &sides);
-    for (i, name) in names.iter().enumerate() {
+    for (i, name) in ONE_ROUND.iter().enumerate() {
         assert_eq!(sides[2 * i](3), sides[2 * i + 1](3), "{name}");
         print_row(name, variables, times[2 * i], times[2 * i + 1]);
     }
