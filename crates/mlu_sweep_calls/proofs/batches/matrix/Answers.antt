@@ -8,7 +8,8 @@ pub new-requires : goal.new-requires
 new-requires g c = rows_of-multiple _ c.args.variables c.args.points c.requires.values
 
 pub returns-clause-size : goal.returns-clause-size
-returns-clause-size g c = places-of_rows _ _ _ c.args.variables c.args.points (ap length c.new.ensures.values ∙ c.requires.values) refl c.requires.places
+returns-clause-size g c =
+    places-of_rows _ _ _ c.args.variables c.args.points (ap length c.new.ensures.values ∙ c.requires.values) refl c.requires.places
 
 pub returns-clause-chunks : goal.returns-clause-chunks
 returns-clause-chunks g c =
