@@ -151,8 +151,8 @@ fn with_table<F: Field + Sample, EF: ExtensionField<F> + Sample>(
         variables: eq1.num_variables(),
         places: 1,
     };
-    dots(alloc, report, eq0, eq1, tables)?;
-    accumulations(alloc, report, eq0, eq1, tables.0)?;
+    base_dots(alloc, report, eq0, eq1, tables)?;
+    ext_sums(alloc, report, eq0, eq1, tables.0)?;
     for places in PLACES {
         report.shape = Shape::Split {
             rows: eq0.len(),
@@ -166,8 +166,9 @@ fn with_table<F: Field + Sample, EF: ExtensionField<F> + Sample>(
     Ok(())
 }
 
-/// Compares the dots of drawn entries with the table, and with the table moved up by one place.
-fn dots<F: Field + Sample, EF: ExtensionField<F> + Sample>(
+/// Compares the dots of drawn entries of the base with the table, and with the table moved up by one
+/// place.
+fn base_dots<F: Field + Sample, EF: ExtensionField<F> + Sample>(
     alloc: Global,
     report: &mut Report,
     eq0: &[EF],
@@ -177,23 +178,17 @@ fn dots<F: Field + Sample, EF: ExtensionField<F> + Sample>(
     requires { length tables.0.now ≡ length eq0.now * length eq1.now.weights }
 {
     let base: Vec<F> = elements(alloc, report, tables.0.len())?;
-    let answer = dot_base(eq0, eq1, &base);
-    report.results("split::dot_base", Ok(answer), dot(alloc, tables.0, &base));
+    let sum = dot(alloc, tables.0, &base);
+    report.results("split::dot_base", Ok(dot_base(eq0, eq1, &base)), sum);
     let sum = dot(alloc, tables.1, &base);
     let answer = dot_base_shifted(eq0, eq1, &base);
     report.results("split::dot_base_shifted", Ok(answer), sum);
-    let ext: Vec<EF> = elements(alloc, report, tables.0.len())?;
-    let sum = plain::dot(tables.0, &ext);
-    report.value("split::dot_ext", dot_ext(eq0, eq1, &ext), sum);
-    if eq1.is_packed() {
-        let entries = whole_packings::<F, EF>(alloc, &ext)?;
-        report.value("split::dot_packed", dot_packed(eq0, eq1, &entries), sum);
-    }
     Ok(())
 }
 
-/// Compares the table, times a drawn scale, added to drawn entries.
-fn accumulations<F: Field + Sample, EF: ExtensionField<F> + Sample>(
+/// Compares the dots of drawn entries of the extension with the table, and the table, times a drawn
+/// scale, added to them.
+fn ext_sums<F: Field + Sample, EF: ExtensionField<F> + Sample>(
     alloc: Global,
     report: &mut Report,
     eq0: &[EF],
@@ -204,12 +199,15 @@ fn accumulations<F: Field + Sample, EF: ExtensionField<F> + Sample>(
 {
     let before: Vec<EF> = elements(alloc, report, whole.len())?;
     let scale = element(report);
+    let sum = plain::dot(whole, &before);
+    report.value("split::dot_ext", dot_ext(eq0, eq1, &before), sum);
     let mut out = Vec::from_slice(alloc, &before)?;
     accumulate_into(eq0, eq1, &mut out, scale);
     let sums = plus_scaled(alloc, &before, scale, whole);
     report.lists("split::accumulate_into", Ok(out), sums);
     if eq1.is_packed() {
         let mut out = whole_packings::<F, EF>(alloc, &before)?;
+        report.value("split::dot_packed", dot_packed(eq0, eq1, &out), sum);
         accumulate_into_packed(eq0, eq1, &mut out, scale);
         let sums = plus_scaled(alloc, &before, scale, whole);
         let answer = lanes::<F, EF>(alloc, &out);
