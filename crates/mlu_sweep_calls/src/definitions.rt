@@ -2,7 +2,8 @@
 ghost use Rattle.std.specs.Prelude.{◌≡◌, ◌^◌, IfOk, vec_len, length};
 
 use mlu_ring::{Additive, Algebra, PrimeCharacteristicRing};
-use mlu_test_support::plain::{next, weight};
+use mlu_test_support::lists::{filled, pair};
+use mlu_test_support::plain;
 use multilinear_util::point::Successor;
 use std::alloc::{AllocError, Global};
 
@@ -18,7 +19,7 @@ pub fn table<R: PrimeCharacteristicRing>(
         return Err(AllocError);
     }
     (0..1 << point.len())
-        .map(|x| scale * weight(point, x))
+        .map(|x| scale * plain::weight(point, x))
         .collect(alloc)
 }
 
@@ -32,7 +33,107 @@ pub fn next_by<R: PrimeCharacteristicRing>(
         Successor::RepeatLast => entries.len().saturating_sub(1),
         Successor::Wrap => 0,
     };
-    next(alloc, entries, end)
+    plain::next(alloc, entries, end)
+}
+
+/// The sum of the images of the entries, each times its weight.
+pub fn dot<F: Additive, EF: Algebra<F>>(
+    alloc: Global,
+    weights: &[EF],
+    entries: &[F],
+) -> Result<EF, AllocError> {
+    let images: Vec<EF> = plain::images(alloc, entries)?;
+    Ok(plain::dot(weights, &images))
+}
+
+/// The sum of the images of the entries, each times the weight of its vertex at the point.
+pub fn value<F: Additive, EF: Algebra<F>>(
+    alloc: Global,
+    point: &[EF],
+    entries: &[F],
+) -> Result<EF, AllocError> {
+    let weights = table(alloc, point, EF::ONE)?;
+    dot(alloc, &weights, entries)
+}
+
+/// The images of the entries, compressed at the last variables.
+pub fn compressed_suffix<F: Additive, EF: Algebra<F>>(
+    alloc: Global,
+    weights: &[EF],
+    entries: &[F],
+) -> Result<Vec<EF>, AllocError> {
+    let images: Vec<EF> = plain::images(alloc, entries)?;
+    plain::compressed_suffix(alloc, weights, &images)
+}
+
+/// What the table of a point leaves of the entries of a polynomial, as it is and moved up by one place.
+#[derive(Drop)]
+pub struct Compressed<R> {
+    pub weights: Vec<R>,
+    pub prefix: Vec<R>,
+    pub suffix: Vec<R>,
+    pub moved_prefix: Vec<R>,
+    pub moved_suffix: Vec<R>,
+}
+
+impl<R: PrimeCharacteristicRing> Compressed<R> {
+    /// The compressions at the point, times the scale. Fails at 32 coordinates and more.
+    pub fn new(alloc: Global, point: &[R], scale: R, entries: &[R]) -> Result<Self, AllocError> {
+        let weights = table(alloc, point, scale)?;
+        let moved = plain::moved(alloc, &weights)?;
+        let prefix = plain::compressed_prefix(alloc, &weights, entries)?;
+        let suffix = plain::compressed_suffix(alloc, &weights, entries)?;
+        let moved_prefix = plain::compressed_prefix(alloc, &moved, entries)?;
+        let moved_suffix = plain::compressed_suffix(alloc, &moved, entries)?;
+        Ok(Compressed {
+            weights,
+            prefix,
+            suffix,
+            moved_prefix,
+            moved_suffix,
+        })
+    }
+}
+
+/// The sums of entries, each times its weight, and of those moved to their successors by either rule.
+#[derive(Clone, Copy)]
+pub struct Sums<R> {
+    pub value: R,
+    pub repeated: R,
+    pub wrapped: R,
+}
+
+impl<R: PrimeCharacteristicRing> Sums<R> {
+    /// The sums of these entries.
+    pub fn new(alloc: Global, weights: &[R], entries: &[R]) -> Result<Self, AllocError> {
+        let repeated = next_by(alloc, Successor::RepeatLast, weights)?;
+        let wrapped = next_by(alloc, Successor::Wrap, weights)?;
+        Ok(Sums {
+            value: plain::dot(weights, entries),
+            repeated: plain::dot(&repeated, entries),
+            wrapped: plain::dot(&wrapped, entries),
+        })
+    }
+}
+
+/// The entries, compressed at the first variable by two weights.
+pub fn first_folded<R: PrimeCharacteristicRing>(
+    alloc: Global,
+    (low, high): (R, R),
+    entries: &[R],
+) -> Result<Vec<R>, AllocError> {
+    let weights = pair(alloc, low, high)?;
+    plain::compressed_prefix(alloc, &weights, entries)
+}
+
+/// The entries, compressed at the last variable by two weights.
+pub fn last_folded<R: PrimeCharacteristicRing>(
+    alloc: Global,
+    (low, high): (R, R),
+    entries: &[R],
+) -> Result<Vec<R>, AllocError> {
+    let weights = pair(alloc, low, high)?;
+    plain::compressed_suffix(alloc, &weights, entries)
 }
 
 /// The first powers of an element, from its power 0 on.
@@ -57,10 +158,10 @@ pub fn two_and_steps<R: PrimeCharacteristicRing>(
     weights: &[R],
     (a, b, boundary): (R, R, R),
 ) -> Result<Vec<R>, AllocError> {
-    let mut sums = Vec::new(alloc);
+    let mut sums = filled(alloc, R::TWO, weights.len())?;
     let mut before = boundary;
-    for weight in weights {
-        sums.push(R::TWO + a * *weight + before)?;
+    for (place, weight) in sums.iter_mut().zip(weights) {
+        *place = *place + a * *weight + before;
         before = b * *weight;
     }
     Ok(sums)
@@ -73,11 +174,11 @@ pub fn plus_scaled<R: PrimeCharacteristicRing>(
     scale: R,
     entries: &[R],
 ) -> Result<Vec<R>, AllocError> {
-    before
-        .iter()
-        .zip(entries)
-        .map(|(old, entry)| *old + scale * *entry)
-        .collect(alloc)
+    let mut sums = Vec::from_slice(alloc, before)?;
+    for (place, entry) in sums.iter_mut().zip(entries) {
+        *place = *place + scale * *entry;
+    }
+    Ok(sums)
 }
 
 /// The coordinates in column `i` of rows of `points` each.
@@ -99,7 +200,7 @@ fn column<R: Copy>(
 /// Adds to each place the scalar times the weight of its vertex at the point.
 fn add_weights<R: PrimeCharacteristicRing>(out: &mut [R], point: &[R], scalar: R) {
     for (x, place) in out.iter_mut().enumerate() {
-        *place = *place + scalar * weight(point, x);
+        *place = *place + scalar * plain::weight(point, x);
     }
 }
 
@@ -118,38 +219,30 @@ pub fn add_batch<R: PrimeCharacteristicRing>(
     Ok(())
 }
 
-/// The sum over `i` of weight `i` times `entries[first + i * step]`.
-fn strided<F: Additive, EF: Algebra<F>>(
+/// The dot of the weights with the images of each of so many rows of entries.
+pub fn row_dots<F: Additive, EF: Algebra<F>>(
+    alloc: Global,
     weights: &[EF],
     entries: &[F],
-    first: usize,
-    step: usize,
-) -> EF {
-    let mut sum = EF::ZERO;
-    for (i, weight) in weights.iter().enumerate() {
-        let place = i.saturating_mul(step).saturating_add(first);
-        if let Some(entry) = entries.get(place) {
-            sum = sum + *weight * EF::from_base(*entry);
-        }
-    }
-    sum
+    rows: usize,
+) -> Result<Vec<EF>, AllocError> {
+    let mut dots = compressed_suffix(alloc, weights, entries)?;
+    dots.resize(rows, EF::ZERO)?;
+    Ok(dots)
 }
 
-/// The sum over `j` and `i` of factor `j` times weight `i` times `entries[j * weights.len() + i]`.
+/// The sum of the dots of the rows, one for each factor, each times its factor.
 pub fn double_sum<F: Additive, EF: Algebra<F>>(
+    alloc: Global,
     factors: &[EF],
     weights: &[EF],
     entries: &[F],
-) -> EF {
-    let mut sum = EF::ZERO;
-    for (j, factor) in factors.iter().enumerate() {
-        let first = j.saturating_mul(weights.len());
-        sum = sum + *factor * strided(weights, entries, first, 1);
-    }
-    sum
+) -> Result<EF, AllocError> {
+    let dots = row_dots(alloc, weights, entries, factors.len())?;
+    Ok(plain::dot(factors, &dots))
 }
 
-/// The values, and added to value `z` the sum over `i` of `scale` times weight `i` times
+/// The values, and added to value `z` the sum over `i` of `scale` times weight `i` times the image of
 /// `entries[i * values.len() + z]`.
 pub fn plus_rows<F: Additive, EF: Algebra<F>>(
     alloc: Global,
@@ -157,11 +250,9 @@ pub fn plus_rows<F: Additive, EF: Algebra<F>>(
     (scale, weights): (EF, &[EF]),
     entries: &[F],
 ) -> Result<Vec<EF>, AllocError> {
-    let mut sums = Vec::new(alloc);
-    for (z, value) in values.iter().enumerate() {
-        sums.push(*value + scale * strided(weights, entries, z, values.len()))?;
-    }
-    Ok(sums)
+    let images: Vec<EF> = plain::images(alloc, entries)?;
+    let rows = plain::compressed_prefix(alloc, weights, &images)?;
+    plus_scaled(alloc, values, scale, &rows)
 }
 
 /// For each lane `k` of so many, the sum over `i` of `left[i * lanes + k]` times `right[i * lanes + k]`.
@@ -171,12 +262,11 @@ pub fn lane_dots<R: PrimeCharacteristicRing>(
     right: &[R],
     lanes: usize,
 ) -> Result<Vec<R>, AllocError> {
-    let mut sums = R::zero_vec(alloc, lanes)?;
-    for (place, (l, r)) in left.iter().zip(right).enumerate() {
-        let lane = place.checked_rem(lanes).unwrap_or(0);
-        if let Some(sum) = sums.get_mut(lane) {
-            *sum = *sum + *l * *r;
-        }
+    let mut dots = Vec::new(alloc);
+    for k in 0..lanes {
+        let weights = column(alloc, left, lanes, k)?;
+        let entries = column(alloc, right, lanes, k)?;
+        dots.push(plain::dot(&weights, &entries))?;
     }
-    Ok(sums)
+    Ok(dots)
 }

@@ -1,46 +1,73 @@
 //! Drawn elements, with those in between that a shortcut could stumble over.
-ghost use Rattle.std.specs.Prelude.{◌≡◌, IfOk, vec_len};
+ghost use Rattle.std.specs.Prelude.{◌≡◌, ◌*◌, IfOk, vec_len};
 
+use crate::report::Report;
 use mlu_ring::{PrimeCharacteristicRing, Sample};
 use mlu_test_tables::poly;
 use multilinear_util::poly::Poly;
 use rand::RngExt;
-use rand_pcg::Pcg32;
 use std::alloc::{AllocError, Global};
 
 /// A drawn element: one in eight is zero, one is one, and one is minus one.
-pub fn element<T: PrimeCharacteristicRing + Sample>(rng: &mut Pcg32) -> T {
-    match rng.random_range(0..8u32) {
+pub fn element<T: PrimeCharacteristicRing + Sample>(report: &mut Report) -> T {
+    match report.rng.random_range(0..8u32) {
         0 => T::ZERO,
         1 => T::ONE,
         2 => T::NEG_ONE,
-        _ => T::sample(rng),
+        _ => T::sample(&mut report.rng),
     }
 }
 
 /// `n` drawn elements.
 pub fn elements<T: PrimeCharacteristicRing + Sample>(
     alloc: Global,
-    rng: &mut Pcg32,
+    report: &mut Report,
     n: usize,
 ) -> Result<Vec<T>, AllocError>
     ensures { IfOk result (λ values. vec_len values ≡ n) }
 {
     let mut values = Vec::with_capacity(alloc, n)?;
     while values.len() < n {
-        values.push(element(rng))?;
+        values.push(element(report))?;
     }
     Ok(values)
+}
+
+/// So many rows of drawn elements, each of the width.
+pub fn rows<T: PrimeCharacteristicRing + Sample>(
+    alloc: Global,
+    report: &mut Report,
+    rows: usize,
+    width: usize,
+) -> Result<Vec<T>, AllocError>
+    ensures { IfOk result (λ values. vec_len values ≡ rows * width) }
+{
+    let n = rows.checked_mul(width).ok_or(AllocError)?;
+    elements(alloc, report, n)
+}
+
+/// So many blocks of drawn elements, each of so many rows of the width.
+pub fn blocks<T: PrimeCharacteristicRing + Sample>(
+    alloc: Global,
+    report: &mut Report,
+    blocks: usize,
+    rows_of_each: usize,
+    width: usize,
+) -> Result<Vec<T>, AllocError>
+    ensures { IfOk result (λ values. vec_len values ≡ blocks * (rows_of_each * width)) }
+{
+    let size = rows_of_each.checked_mul(width).ok_or(AllocError)?;
+    rows(alloc, report, blocks, size)
 }
 
 /// A polynomial with drawn values. Fails at 32 variables and more.
 pub fn polynomial<T: PrimeCharacteristicRing + Sample>(
     alloc: Global,
-    rng: &mut Pcg32,
+    report: &mut Report,
     variables: usize,
 ) -> Result<Poly<T>, AllocError> {
     if variables >= 32 {
         return Err(AllocError);
     }
-    poly(elements(alloc, rng, 1 << variables)?)
+    poly(elements(alloc, report, 1 << variables)?)
 }

@@ -1,18 +1,20 @@
 //! The kernels of packed weights by themselves, at few weights, rows and places, and at none.
 ghost use Rattle.std.specs.Prelude.{◌≡◌, ◌*◌, ◌≤◌, IfOk, length, vec_len};
 
-use crate::definitions::{double_sum, lane_dots, plus_rows};
-use crate::draws::{element, elements};
+use crate::definitions::{double_sum, lane_dots, plus_rows, row_dots};
+use crate::draws::{self, blocks, element, elements};
 use crate::report::{Report, Shape};
-use mlu_kernel::rows::row_dots;
 use mlu_kernel::small::is_small;
 use mlu_kernel::{
     compress_hi_dot_packed, compress_hi_dot_packed_eager, compress_prefix_to_packed_packed,
-    compress_prefix_to_packed_packed_kernel_eager, packed_basis_dot,
+    compress_prefix_to_packed_packed_kernel_eager, packed_basis_dot, rows,
 };
-use mlu_ring::{Additive, ExtensionField, Field, Lanewise, PackedValue, Sample, Unmetered, row_of};
+use mlu_ring::{
+    Additive, ExtensionField, Field, Lanewise, PackedValue, PrimeCharacteristicRing, Sample,
+    Unmetered, row_of,
+};
 use mlu_test_support::lanes::{lanes, packed};
-use rand_pcg::Pcg32;
+use mlu_test_support::lists::filled;
 use std::alloc::{AllocError, Global};
 
 /// How many packed weights a dot has: few, and more than its columns of coefficients hold.
@@ -34,28 +36,21 @@ const MOST_ROWS: usize = 9;
 pub fn compare<F: Field + Sample, EF: ExtensionField<F> + Sample>(
     alloc: Global,
     report: &mut Report,
-    rng: &mut Pcg32,
 ) -> Result<(), AllocError> {
     for values in VALUES {
-        basis_dots::<F>(alloc, report, rng, values)?;
+        basis_dots::<F>(alloc, report, values)?;
     }
     for rows in ROWS {
-        dots::<F, EF>(alloc, report, rng, rows)?;
-        prefixes::<F, EF>(alloc, report, rng, rows)?;
+        for weights in WEIGHTS {
+            report.shape = Shape::Dot { weights, rows };
+            dot::<F, EF>(alloc, report, weights, rows)?;
+        }
     }
-    Ok(())
-}
-
-/// Compares the dots of so many rows.
-fn dots<F: Field + Sample, EF: ExtensionField<F> + Sample>(
-    alloc: Global,
-    report: &mut Report,
-    rng: &mut Pcg32,
-    rows: usize,
-) -> Result<(), AllocError> {
-    for weights in WEIGHTS {
-        report.shape = Shape::Dot { weights, rows };
-        dot::<F, EF>(alloc, report, rng, (weights, rows))?;
+    for weights in ROWS {
+        for places in PLACES {
+            report.shape = Shape::Prefix { weights, places };
+            prefix::<F, EF>(alloc, report, weights, places)?;
+        }
     }
     Ok(())
 }
@@ -64,54 +59,35 @@ fn dots<F: Field + Sample, EF: ExtensionField<F> + Sample>(
 fn dot<F: Field + Sample, EF: ExtensionField<F> + Sample>(
     alloc: Global,
     report: &mut Report,
-    rng: &mut Pcg32,
-    (weights, rows): (usize, usize),
+    weights: usize,
+    rows: usize,
 ) -> Result<(), AllocError> {
-    let width = weights.checked_mul(F::Packing::WIDTH).ok_or(AllocError)?;
-    let size = rows.checked_mul(width).ok_or(AllocError)?;
-    let logical: Vec<EF> = elements(alloc, rng, width)?;
-    let chunk: Vec<F> = elements(alloc, rng, size)?;
-    let eq0: Vec<EF> = elements(alloc, rng, rows)?;
+    let logical: Vec<EF> = draws::rows(alloc, report, weights, F::Packing::WIDTH)?;
+    let chunk: Vec<F> = draws::rows(alloc, report, rows, logical.len())?;
+    let eq0: Vec<EF> = elements(alloc, report, rows)?;
     let eq1 = packed::<F, EF>(alloc, &logical, weights)?;
-    let sum = double_sum(&eq0, &logical, &chunk);
-    let answer = compress_hi_dot_packed::<F, EF>(&eq1, &chunk, &eq0);
-    report.value("compress_hi_dot_packed", answer, sum);
-    let answer = compress_hi_dot_packed_eager::<F, EF>(&eq1, &chunk, &eq0);
-    report.value("compress_hi_dot_packed_eager", answer, sum);
-    let mut dots: Vec<EF> = elements(alloc, rng, rows)?;
-    row_dots::<F, EF>(&mut dots, &eq1, &chunk);
-    row_by_row(report, &dots, &eq0, &logical, &chunk);
-    Ok(())
+    compare_dots::<F, EF>(alloc, report, (&eq1, &logical), &chunk, &eq0)
 }
 
-/// Compares the dot of each row, times a factor.
-fn row_by_row<F: Field, EF: ExtensionField<F>>(
-    report: &mut Report,
-    dots: &[EF],
-    factors: &[EF],
-    weights: &[EF],
-    chunk: &[F],
-)
-    requires { length factors.now ≡ length dots.now }
-{
-    for j in 0..dots.len() {
-        let row = row_of(chunk, dots.len(), j);
-        let defined = double_sum(&factors[j..j + 1], weights, row);
-        report.value("rows::row_dots", factors[j] * dots[j], defined);
-    }
-}
-
-/// Compares the prefix kernel with so many packed weights.
-fn prefixes<F: Field + Sample, EF: ExtensionField<F> + Sample>(
+/// Compares the dots of the rows with the packed weights, and the sum of these, each times its factor.
+fn compare_dots<F: Field, EF: ExtensionField<F>>(
     alloc: Global,
     report: &mut Report,
-    rng: &mut Pcg32,
-    weights: usize,
-) -> Result<(), AllocError> {
-    for places in PLACES {
-        report.shape = Shape::Prefix { weights, places };
-        prefix::<F, EF>(alloc, report, rng, (weights, places))?;
-    }
+    weights: (&[EF::ExtensionPacking], &[EF]),
+    chunk: &[F],
+    eq0: &[EF],
+) -> Result<(), AllocError>
+    requires { length chunk.now ≡ length eq0.now * (length weights.0.now * F.Packing.WIDTH) }
+{
+    let sum = double_sum(alloc, eq0, weights.1, chunk);
+    let answer = compress_hi_dot_packed::<F, EF>(weights.0, chunk, eq0);
+    report.results("compress_hi_dot_packed", Ok(answer), sum);
+    let answer = compress_hi_dot_packed_eager::<F, EF>(weights.0, chunk, eq0);
+    report.results("compress_hi_dot_packed_eager", Ok(answer), sum);
+    let mut dots = filled(alloc, EF::TWO, eq0.len())?;
+    rows::row_dots::<F, EF>(&mut dots, weights.0, chunk);
+    let defined = row_dots(alloc, weights.1, chunk, eq0.len());
+    report.lists("rows::row_dots", Ok(dots), defined);
     Ok(())
 }
 
@@ -119,52 +95,64 @@ fn prefixes<F: Field + Sample, EF: ExtensionField<F> + Sample>(
 fn prefix<F: Field + Sample, EF: ExtensionField<F> + Sample>(
     alloc: Global,
     report: &mut Report,
-    rng: &mut Pcg32,
-    (weights, places): (usize, usize),
+    weights: usize,
+    places: usize,
 ) -> Result<(), AllocError> {
-    let row = places.checked_mul(F::Packing::WIDTH).ok_or(AllocError)?;
-    let rows = F::Packing::WIDTH.checked_mul(row).ok_or(AllocError)?;
-    let size = weights.checked_mul(rows).ok_or(AllocError)?;
-    let width = weights.checked_mul(F::Packing::WIDTH).ok_or(AllocError)?;
-    let before: Vec<EF> = elements(alloc, rng, row)?;
-    let logical: Vec<EF> = elements(alloc, rng, width)?;
-    let chunk: Vec<F> = elements(alloc, rng, size)?;
-    let w0 = element::<EF>(rng);
+    let before: Vec<EF> = draws::rows(alloc, report, places, F::Packing::WIDTH)?;
+    let logical: Vec<EF> = draws::rows(alloc, report, weights, F::Packing::WIDTH)?;
+    let chunk: Vec<F> = blocks(alloc, report, weights, F::Packing::WIDTH, before.len())?;
     let eq1 = packed::<F, EF>(alloc, &logical, weights)?;
-    let sums = plus_rows(alloc, &before, (w0, &logical), &chunk)?;
-    let mut out = packed::<F, EF>(alloc, &before, places)?;
-    compress_prefix_to_packed_packed::<F, EF>(&mut out, &eq1, &chunk, w0);
-    let after = lanes::<F, EF>(alloc, &out)?;
-    report.values("compress_prefix_to_packed_packed", &after, &sums);
-    let mut out = packed::<F, EF>(alloc, &before, places)?;
-    compress_prefix_to_packed_packed_kernel_eager::<F, EF>(&mut out, &eq1, &chunk, w0);
-    let after = lanes::<F, EF>(alloc, &out)?;
-    report.values(
+    let w0 = element::<EF>(report);
+    let sums = plus_rows(alloc, &before, (w0, &logical), &chunk);
+    let answer = prefixed::<F, EF>(alloc, (&before, places), &eq1, &chunk, w0, false);
+    report.lists("compress_prefix_to_packed_packed", answer, sums);
+    let sums = plus_rows(alloc, &before, (w0, &logical), &chunk);
+    let answer = prefixed::<F, EF>(alloc, (&before, places), &eq1, &chunk, w0, true);
+    report.lists(
         "compress_prefix_to_packed_packed_kernel_eager",
-        &after,
-        &sums,
+        answer,
+        sums,
     );
     Ok(())
+}
+
+/// The lanes of so many packed places after the prefix kernel, or after its eager form.
+fn prefixed<F: Field, EF: ExtensionField<F>>(
+    alloc: Global,
+    before: (&[EF], usize),
+    eq1: &[EF::ExtensionPacking],
+    chunk: &[F],
+    w0: EF,
+    is_eager: bool,
+) -> Result<Vec<EF>, AllocError>
+    requires places { length before.0.now ≡ before.1 * F.Packing.WIDTH }
+    requires rows { length chunk.now ≡ length eq1.now * (F.Packing.WIDTH * (before.1 * F.Packing.WIDTH)) }
+{
+    let mut out = packed::<F, EF>(alloc, before.0, before.1)?;
+    if is_eager {
+        compress_prefix_to_packed_packed_kernel_eager::<F, EF>(&mut out, eq1, chunk, w0);
+    } else {
+        compress_prefix_to_packed_packed::<F, EF>(&mut out, eq1, chunk, w0);
+    }
+    lanes::<F, EF>(alloc, &out)
 }
 
 /// Compares the dots by groups of four of no rows, of one and of several.
 fn basis_dots<F: Field + Sample>(
     alloc: Global,
     report: &mut Report,
-    rng: &mut Pcg32,
     values: usize,
 ) -> Result<(), AllocError> {
-    basis_dot::<F, 0>(alloc, report, rng, values)?;
-    basis_dot::<F, 1>(alloc, report, rng, values)?;
-    basis_dot::<F, 4>(alloc, report, rng, values)?;
-    basis_dot::<F, MOST_ROWS>(alloc, report, rng, values)
+    basis_dot::<F, 0>(alloc, report, values)?;
+    basis_dot::<F, 1>(alloc, report, values)?;
+    basis_dot::<F, 4>(alloc, report, values)?;
+    basis_dot::<F, MOST_ROWS>(alloc, report, values)
 }
 
 /// Compares the dots of `D` drawn rows of so many packed values.
 fn basis_dot<F: Field + Sample, const D: usize>(
     alloc: Global,
     report: &mut Report,
-    rng: &mut Pcg32,
     values: usize,
 ) -> Result<(), AllocError> {
     if D > MOST_ROWS || !is_small(&F::Packing::ZERO) {
@@ -172,20 +160,30 @@ fn basis_dot<F: Field + Sample, const D: usize>(
     }
     report.shape = Shape::Basis { rows: D, values };
     let count = D.checked_mul(values).ok_or(AllocError)?;
-    let size = count.checked_mul(F::Packing::WIDTH).ok_or(AllocError)?;
-    let width = values.checked_mul(F::Packing::WIDTH).ok_or(AllocError)?;
-    let rows: Vec<F> = elements(alloc, rng, size)?;
-    let right: Vec<F> = elements(alloc, rng, width)?;
-    let mut defined = Vec::new(alloc);
-    for k in 0..D {
-        let dots = lane_dots(alloc, row_of(&rows, D, k), &right, F::Packing::WIDTH)?;
-        defined.extend_from_slice(&dots)?;
-    }
+    let rows: Vec<F> = draws::rows(alloc, report, count, F::Packing::WIDTH)?;
+    let right: Vec<F> = draws::rows(alloc, report, values, F::Packing::WIDTH)?;
+    let defined = dots_by_lane(alloc, &rows, &right, (D, F::Packing::WIDTH));
     let rows = loaded::<F>(alloc, &rows, count)?;
     let right = loaded::<F>(alloc, &right, values)?;
     let sums = dots_of_rows::<F, D>(&rows, &right);
-    report.values("packed_basis_dot", &lanes_of::<F>(alloc, &sums)?, &defined);
+    let answer = lanes_of::<F>(alloc, &sums);
+    report.lists("packed_basis_dot", answer, defined);
     Ok(())
+}
+
+/// The dots of so many rows with `right`, each by so many lanes.
+fn dots_by_lane<R: PrimeCharacteristicRing>(
+    alloc: Global,
+    rows: &[R],
+    right: &[R],
+    (count, width): (usize, usize),
+) -> Result<Vec<R>, AllocError> {
+    let mut dots = Vec::new(alloc);
+    for k in 0..count {
+        let lanes = lane_dots(alloc, row_of(rows, count, k), right, width)?;
+        dots.extend_from_slice(&lanes)?;
+    }
+    Ok(dots)
 }
 
 /// The dots of `D` rows, each as long as `right`.

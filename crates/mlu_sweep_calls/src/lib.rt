@@ -12,6 +12,7 @@ mod draws;
 mod folds;
 mod halves;
 mod kernels;
+mod lanes;
 mod points;
 mod polys;
 mod report;

@@ -1,9 +1,13 @@
 //! Polynomials at a point, and tables of the point, without a split table between.
+ghost use Rattle.std.specs.Prelude.{◌≡◌, ◌*◌, ◌≤◌, ◌^◌, length};
 
-use crate::definitions::{next_by, table};
+use crate::definitions::{Compressed, Sums, next_by, table};
+use crate::lanes::{in_lanes, unpacked, values};
 use crate::report::Report;
-use mlu_ring::{ExtensionField, Field, PackedValue};
+use mlu_ring::{ExtensionField, Field, PackedValue, PrimeCharacteristicRing};
+use mlu_test_support::lists::filled;
 use mlu_test_support::plain;
+use mlu_test_tables::poly;
 use multilinear_util::point::{Point, Successor};
 use multilinear_util::poly::{Poly, PolyMaybePacked};
 use std::alloc::{AllocError, Global};
@@ -13,125 +17,118 @@ pub fn evaluate<F: Field, EF: ExtensionField<F>>(
     alloc: Global,
     report: &mut Report,
     point: &Point<EF>,
-    (base, ext): (&Poly<F>, &Poly<EF>),
+    (base, images, ext): (&Poly<F>, &[EF], &Poly<EF>),
 ) -> Result<(), AllocError> {
     let variables = point.num_variables();
     if base.num_variables() != variables || ext.num_variables() != variables {
         return Err(AllocError);
     }
+    let weights = table(alloc, point.as_slice(), EF::ONE)?;
     let constant = ext.as_constant().is_some();
     report.agrees("Poly::as_constant", constant == (variables == 0));
-    let weights = table(alloc, point.as_slice(), EF::ONE)?;
-    let images: Vec<EF> = plain::images(alloc, base.as_slice())?;
-    let value = base.eval_base(alloc, point)?;
-    report.value("Poly::eval_base", value, plain::dot(&weights, &images));
-    let value = ext.eval_ext::<F>(alloc, point)?;
-    report.value(
-        "Poly::eval_ext",
-        value,
-        plain::dot(&weights, ext.as_slice()),
-    );
-    let repeated = plain::dot(&next_by(alloc, Successor::RepeatLast, &weights)?, &images);
-    let value = base.eval_next_base(alloc, point)?;
-    report.value("Poly::eval_next_base", value, repeated);
-    let value = base.eval_next_base_by(alloc, Successor::RepeatLast, point)?;
-    report.value("Poly::eval_next_base_by RepeatLast", value, repeated);
-    let wrapped = plain::dot(&next_by(alloc, Successor::Wrap, &weights)?, &images);
-    let value = base.eval_next_base_by(alloc, Successor::Wrap, point)?;
-    report.value("Poly::eval_next_base_by Wrap", value, wrapped);
-    Ok(())
+    let sums = Sums::new(alloc, &weights, images)?;
+    over_the_base(alloc, report, point, sums, base);
+    let value = plain::dot(&weights, ext.as_slice());
+    let answer = ext.eval_ext::<F>(alloc, point);
+    report.results("Poly::eval_ext", answer, Ok(value));
+    in_each_storage::<F, EF>(alloc, report, point, ext, value)
 }
 
-/// Compares the value of a polynomial in lanes, where there are values for one packing.
-pub fn evaluate_lanes<F: Field, EF: ExtensionField<F>>(
+/// Compares the values of a polynomial over the base.
+fn over_the_base<F: Field, EF: ExtensionField<F>>(
+    alloc: Global,
+    report: &mut Report,
+    point: &Point<EF>,
+    defined: Sums<EF>,
+    base: &Poly<F>,
+)
+    requires { length base.now ≡ 2 ^ length point.now }
+{
+    let (repeated, wrapped) = (Ok(defined.repeated), Ok(defined.wrapped));
+    let answer = base.eval_base(alloc, point);
+    report.results("Poly::eval_base", answer, Ok(defined.value));
+    let answer = base.eval_next_base(alloc, point);
+    report.results("Poly::eval_next_base", answer, repeated);
+    let answer = base.eval_next_base_by(alloc, Successor::RepeatLast, point);
+    report.results("Poly::eval_next_base_by RepeatLast", answer, repeated);
+    let answer = base.eval_next_base_by(alloc, Successor::Wrap, point);
+    report.results("Poly::eval_next_base_by Wrap", answer, wrapped);
+}
+
+/// Compares the value of a polynomial in either storage, and in lanes where there are values for one
+/// packing.
+fn in_each_storage<F: Field, EF: ExtensionField<F>>(
     alloc: Global,
     report: &mut Report,
     point: &Point<EF>,
     ext: &Poly<EF>,
-) -> Result<(), AllocError> {
-    let variables = point.num_variables();
-    if ext.num_variables() != variables || variables >= 32 {
-        return Err(AllocError);
-    }
+    value: EF,
+) -> Result<(), AllocError>
+    requires { length ext.now ≡ 2 ^ length point.now }
+{
+    let scalars = PolyMaybePacked::Scalar(ext.try_clone(alloc)?);
+    let answer = value_stored::<F, EF>(alloc, point, scalars);
+    report.results("PolyMaybePacked::eval", answer, Ok(value));
     if ext.num_evals() < F::Packing::WIDTH {
         return Ok(());
     }
-    let weights = table(alloc, point.as_slice(), EF::ONE)?;
-    let lanes = ext.pack::<F, EF>(alloc)?;
-    if lanes.num_evals().checked_mul(F::Packing::WIDTH) != Some(1 << variables) {
-        return Err(AllocError);
-    }
-    let value = lanes.eval_packed::<F, EF>(alloc, point)?;
-    report.value(
-        "Poly::eval_packed",
-        value,
-        plain::dot(&weights, ext.as_slice()),
-    );
-    let mut written = Poly::<EF>::zero(alloc, variables)?;
+    let lanes = in_lanes::<F, EF>(alloc, ext)?;
+    let answer = lanes.eval_packed::<F, EF>(alloc, point);
+    report.results("Poly::eval_packed", answer, Ok(value));
+    let answer = value_stored::<F, EF>(alloc, point, PolyMaybePacked::Packed(lanes));
+    report.results("PolyMaybePacked::eval of lanes", answer, Ok(value));
+    unpack_into::<F, EF>(alloc, report, ext)
+}
+
+/// Compares the lanes of a polynomial in lanes, written over twos.
+fn unpack_into<F: Field, EF: ExtensionField<F>>(
+    alloc: Global,
+    report: &mut Report,
+    ext: &Poly<EF>,
+) -> Result<(), AllocError>
+    requires { F.Packing.WIDTH ≤ length ext.now }
+{
+    let lanes = in_lanes::<F, EF>(alloc, ext)?;
+    let mut written = poly(filled(alloc, EF::TWO, ext.num_evals())?)?;
     lanes.unpack_into::<F, EF>(&mut written);
     report.values("Poly::unpack_into", written.as_slice(), ext.as_slice());
     Ok(())
 }
 
-/// Compares the value of a polynomial in either storage, in lanes where there are values for one
-/// packing.
-pub fn evaluate_storages<F: Field, EF: ExtensionField<F>>(
+/// The value of a polynomial in either storage. Fails where the point has not as many coordinates as it
+/// has variables.
+fn value_stored<F: Field, EF: ExtensionField<F>>(
     alloc: Global,
-    report: &mut Report,
     point: &Point<EF>,
-    ext: &Poly<EF>,
-) -> Result<(), AllocError> {
-    let weights = table(alloc, point.as_slice(), EF::ONE)?;
-    let defined = plain::dot(&weights, ext.as_slice());
-    let mut storage: PolyMaybePacked<F, EF> = PolyMaybePacked::Scalar(ext.try_clone(alloc)?);
+    storage: PolyMaybePacked<F, EF>,
+) -> Result<EF, AllocError> {
     if storage.num_variables() != point.num_variables() {
         return Err(AllocError);
     }
-    let value = storage.eval(alloc, point)?;
-    report.value("PolyMaybePacked::eval", value, defined);
-    if ext.num_evals() < F::Packing::WIDTH {
-        return Ok(());
-    }
-    storage = PolyMaybePacked::Packed(ext.pack::<F, EF>(alloc)?);
-    if storage.num_variables() != point.num_variables() {
-        return Err(AllocError);
-    }
-    let value = storage.eval(alloc, point)?;
-    report.value("PolyMaybePacked::eval of lanes", value, defined);
-    Ok(())
+    storage.eval(alloc, point)
 }
 
 /// Compares the tables of a point.
-pub fn tabulate<F: Field, EF: ExtensionField<F>>(
+pub fn tabulate<R: PrimeCharacteristicRing>(
     alloc: Global,
     report: &mut Report,
-    point: &Point<EF>,
-    scale: EF,
+    point: &[R],
+    scale: R,
 ) -> Result<(), AllocError> {
-    let coordinates = point.as_slice();
-    if coordinates.len() >= 32 {
+    if point.len() >= 32 {
         return Err(AllocError);
     }
-    let scaled = table(alloc, coordinates, scale)?;
-    let made = Poly::new_from_point(alloc, coordinates, scale)?;
-    report.values("Poly::new_from_point", made.as_slice(), &scaled);
-    let weights = table(alloc, coordinates, EF::ONE)?;
+    let answer = values(Poly::new_from_point(alloc, point, scale));
+    report.lists("Poly::new_from_point", answer, table(alloc, point, scale));
+    let weights = table(alloc, point, R::ONE)?;
     let repeated = next_by(alloc, Successor::RepeatLast, &weights)?;
-    let made = Poly::new_next_from_point(alloc, coordinates)?;
-    report.values("Poly::new_next_from_point", made.as_slice(), &repeated);
-    let made = Poly::new_next_from_point_by(alloc, Successor::RepeatLast, coordinates)?;
-    report.values(
-        "Poly::new_next_from_point_by RepeatLast",
-        made.as_slice(),
-        &repeated,
-    );
-    let wrapped = next_by(alloc, Successor::Wrap, &weights)?;
-    let made = Poly::new_next_from_point_by(alloc, Successor::Wrap, coordinates)?;
-    report.values(
-        "Poly::new_next_from_point_by Wrap",
-        made.as_slice(),
-        &wrapped,
-    );
+    let answer = Poly::new_next_from_point(alloc, point);
+    report.table("Poly::new_next_from_point", answer, &repeated);
+    let answer = Poly::new_next_from_point_by(alloc, Successor::RepeatLast, point);
+    report.table("Poly::new_next_from_point_by RepeatLast", answer, &repeated);
+    let wrapped = next_by(alloc, Successor::Wrap, &weights);
+    let answer = values(Poly::new_next_from_point_by(alloc, Successor::Wrap, point));
+    report.lists("Poly::new_next_from_point_by Wrap", answer, wrapped);
     Ok(())
 }
 
@@ -139,20 +136,18 @@ pub fn tabulate<F: Field, EF: ExtensionField<F>>(
 pub fn tabulate_lanes<F: Field, EF: ExtensionField<F>>(
     alloc: Global,
     report: &mut Report,
-    point: &Point<EF>,
+    point: &[EF],
     scale: EF,
 ) -> Result<(), AllocError> {
-    let coordinates = point.as_slice();
-    if coordinates.len() >= 32 {
+    if point.len() >= 32 {
         return Err(AllocError);
     }
-    if coordinates.len() < F::Packing::LOG_WIDTH {
-        return Ok(());
+    if point.len() >= F::Packing::LOG_WIDTH {
+        let defined = table(alloc, point, scale);
+        let answer = Poly::new_packed_from_point::<F, EF>(alloc, point, scale);
+        let answer = unpacked::<F, EF>(alloc, answer);
+        report.lists("Poly::new_packed_from_point", answer, defined);
     }
-    let scaled = table(alloc, coordinates, scale)?;
-    let made = Poly::new_packed_from_point::<F, EF>(alloc, coordinates, scale)?;
-    let made = made.unpack::<F, EF>(alloc)?;
-    report.values("Poly::new_packed_from_point", made.as_slice(), &scaled);
     Ok(())
 }
 
@@ -163,23 +158,20 @@ pub fn compress<F: Field, EF: ExtensionField<F>>(
     report: &mut Report,
     (point, scale): (&Point<EF>, EF),
     base: &Poly<F>,
+    defined: &Compressed<EF>,
 ) -> Result<(), AllocError> {
     if point.num_variables() >= 32 || 1 << point.num_variables() > base.num_evals() {
         return Err(AllocError);
     }
-    let entries = table(alloc, point.as_slice(), scale)?;
-    let images: Vec<EF> = plain::images(alloc, base.as_slice())?;
-    let prefix = plain::compressed_prefix(alloc, &entries, &images)?;
-    let left = base.compress_prefix(alloc, point, scale)?;
-    report.values("Poly::compress_prefix", left.as_slice(), &prefix);
-    let suffix = plain::compressed_suffix(alloc, &entries, &images)?;
-    let left = base.compress_suffix(alloc, point, scale)?;
-    report.values("Poly::compress_suffix", left.as_slice(), &suffix);
+    let answer = base.compress_prefix(alloc, point, scale);
+    report.table("Poly::compress_prefix", answer, &defined.prefix);
+    let answer = base.compress_suffix(alloc, point, scale);
+    report.table("Poly::compress_suffix", answer, &defined.suffix);
     let least = (1usize << point.num_variables()).checked_mul(F::Packing::WIDTH);
     if least.is_some_and(|least| least <= base.num_evals()) {
-        let left = base.compress_prefix_to_packed(alloc, point, scale)?;
-        let left = left.unpack::<F, EF>(alloc)?;
-        report.values("Poly::compress_prefix_to_packed", left.as_slice(), &prefix);
+        let answer = base.compress_prefix_to_packed(alloc, point, scale);
+        let answer = unpacked::<F, EF>(alloc, answer);
+        report.list("Poly::compress_prefix_to_packed", answer, &defined.prefix);
     }
     Ok(())
 }

@@ -1,6 +1,10 @@
 //! What a sweep has found.
 
+use crate::lanes::values;
 use mlu_ring::Additive;
+use multilinear_util::poly::Poly;
+use rand_pcg::Pcg32;
+use std::alloc::AllocError;
 use std::fmt;
 
 /// What the values at hand are made of.
@@ -83,23 +87,40 @@ impl fmt::Display for Difference {
     }
 }
 
-/// The shape at hand, and the first difference that was met.
-#[derive(Clone, Copy)]
+/// The shape at hand, where the next draw comes from, and the first difference that was met.
+#[derive(Drop)]
 pub struct Report {
     pub shape: Shape,
+    pub rng: Pcg32,
     /// How an operand was made where it is made in more than one way, or nothing.
     pub form: &'static str,
-    pub difference: Option<Difference>,
+    difference: Option<Difference>,
+    is_refused: bool,
 }
 
+/// A call that is compared gives its answer as it comes: the report notes where memory was refused, to
+/// the call or to the definition.
 impl Report {
     /// Nothing compared yet.
     pub fn new() -> Self {
         Report {
             shape: Shape::Slice { entries: 0 },
+            rng: Pcg32::new(1, 54),
             form: "",
             difference: None,
+            is_refused: false,
         }
+    }
+
+    /// The first difference, if there is one.
+    ///
+    /// # Errors
+    /// Where memory was refused.
+    pub fn outcome(&self) -> Result<Option<Difference>, AllocError> {
+        if self.is_refused {
+            return Err(AllocError);
+        }
+        Ok(self.difference)
     }
 
     /// Notes where the answer of the call differs, unless a difference was met before.
@@ -111,9 +132,7 @@ impl Report {
 
     /// As [`Report::values`], for one value.
     pub fn value<R: Additive>(&mut self, call: &'static str, answer: R, defined: R) {
-        if answer != defined {
-            self.note(call, 0);
-        }
+        self.agrees(call, answer == defined);
     }
 
     /// Notes the call where it does not agree, unless a difference was met before.
@@ -121,6 +140,55 @@ impl Report {
         if !agrees {
             self.note(call, 0);
         }
+    }
+
+    /// As [`Report::value`], for what may be refused.
+    pub fn results<R: Additive>(
+        &mut self,
+        call: &'static str,
+        answer: Result<R, AllocError>,
+        defined: Result<R, AllocError>,
+    ) {
+        match (answer, defined) {
+            (Ok(answer), Ok(defined)) => self.value(call, answer, defined),
+            _ => self.is_refused = true,
+        }
+    }
+
+    /// As [`Report::values`], for an answer that may be refused.
+    pub fn list<R: Additive>(
+        &mut self,
+        call: &'static str,
+        answer: Result<Vec<R>, AllocError>,
+        defined: &[R],
+    ) {
+        match answer {
+            Ok(answer) => self.values(call, &answer, defined),
+            Err(_) => self.is_refused = true,
+        }
+    }
+
+    /// As [`Report::list`], with a definition that may be refused too.
+    pub fn lists<R: Additive>(
+        &mut self,
+        call: &'static str,
+        answer: Result<Vec<R>, AllocError>,
+        defined: Result<Vec<R>, AllocError>,
+    ) {
+        match defined {
+            Ok(defined) => self.list(call, answer, &defined),
+            Err(_) => self.is_refused = true,
+        }
+    }
+
+    /// As [`Report::list`], for the values of a polynomial.
+    pub fn table<R: Additive>(
+        &mut self,
+        call: &'static str,
+        answer: Result<Poly<R>, AllocError>,
+        defined: &[R],
+    ) {
+        self.list(call, values(answer), defined);
     }
 
     /// Notes a difference, unless one was met before.
@@ -138,14 +206,15 @@ impl Report {
 
 /// The first place where the lists differ, or where one of them ends before the other.
 fn first_difference<R: Additive>(answer: &[R], defined: &[R]) -> Option<usize> {
-    for (place, (left, right)) in answer.iter().zip(defined).enumerate() {
-        if *left != *right {
+    let both = answer.len().min(defined.len());
+    for place in 0..both {
+        if answer[place] != defined[place] {
             return Some(place);
         }
     }
     if answer.len() == defined.len() {
         None
     } else {
-        Some(answer.len().min(defined.len()))
+        Some(both)
     }
 }

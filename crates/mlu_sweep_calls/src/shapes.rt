@@ -1,12 +1,13 @@
 //! Every shape up to a number of variables, over any field and extension of it.
 
+use crate::definitions::Compressed;
 use crate::draws::{element, elements, polynomial};
 use crate::report::{Difference, Report, Shape};
 use crate::{batches, folds, halves, kernels, points, polys, slices, splits};
 use mlu_ring::{ExtensionField, Field, Sample, SelfAlgebra};
+use mlu_test_support::plain;
 use multilinear_util::point::Point;
 use multilinear_util::poly::Poly;
-use rand_pcg::Pcg32;
 use std::alloc::{AllocError, Global};
 
 /// The most points of a batch.
@@ -23,37 +24,37 @@ pub fn sweep<F: Field + Sample, EF: ExtensionField<F> + SelfAlgebra + Sample>(
     most: usize,
 ) -> Result<Option<Difference>, AllocError> {
     let mut report = Report::new();
-    let mut rng = Pcg32::new(1, 54);
-    kernels::compare::<F, EF>(alloc, &mut report, &mut rng)?;
-    slices::fold::<F, EF>(alloc, &mut report, &mut rng)?;
-    halves::compare::<F, EF>(alloc, &mut report, &mut rng)?;
+    kernels::compare::<F, EF>(alloc, &mut report)?;
+    slices::fold::<F, EF>(alloc, &mut report)?;
+    halves::compare::<F, EF>(alloc, &mut report)?;
     for variables in 0..=most {
-        polynomials::<F, EF>(alloc, &mut report, &mut rng, variables)?;
-        tables::<F, EF>(alloc, &mut report, &mut rng, variables)?;
+        polynomials::<F, EF>(alloc, &mut report, variables)?;
+        tables::<F, EF>(alloc, &mut report, variables)?;
     }
-    Ok(report.difference)
+    report.outcome()
 }
 
 /// Compares the calls on drawn polynomials of so many variables.
 fn polynomials<F: Field + Sample, EF: ExtensionField<F> + SelfAlgebra + Sample>(
     alloc: Global,
     report: &mut Report,
-    rng: &mut Pcg32,
     variables: usize,
 ) -> Result<(), AllocError> {
-    let base: Poly<F> = polynomial(alloc, rng, variables)?;
-    let ext: Poly<EF> = polynomial(alloc, rng, variables)?;
+    let base: Poly<F> = polynomial(alloc, report, variables)?;
+    let images: Vec<EF> = plain::images(alloc, base.as_slice())?;
+    let ext: Poly<EF> = polynomial(alloc, report, variables)?;
+    let polys = (&base, images.as_slice(), &ext);
     report.shape = Shape::Polynomial {
         variables,
         coordinates: 1,
     };
-    fold(alloc, report, rng, (&base, &ext))?;
+    fold(alloc, report, polys);
     for coordinates in 0..=variables {
         report.shape = Shape::Polynomial {
             variables,
             coordinates,
         };
-        at_a_point(alloc, report, rng, coordinates, (&base, &ext))?;
+        at_a_point(alloc, report, coordinates, polys)?;
     }
     Ok(())
 }
@@ -62,35 +63,31 @@ fn polynomials<F: Field + Sample, EF: ExtensionField<F> + SelfAlgebra + Sample>(
 fn fold<F: Field + Sample, EF: ExtensionField<F> + SelfAlgebra + Sample>(
     alloc: Global,
     report: &mut Report,
-    rng: &mut Pcg32,
-    (base, ext): (&Poly<F>, &Poly<EF>),
-) -> Result<(), AllocError> {
-    folds::into_the_extension(alloc, report, base, element::<EF>(rng))?;
-    folds::in_place::<EF, EF>(alloc, report, ext, element(rng))?;
-    folds::of_coefficients::<EF, EF>(alloc, report, ext, element(rng))?;
+    polys: (&Poly<F>, &[EF], &Poly<EF>),
+) {
+    let r: EF = element(report);
+    folds::into_the_extension(alloc, report, polys.0, polys.1, r);
+    folds::in_place::<EF, EF>(alloc, report, polys.2, r);
     report.form = " at the base";
-    folds::in_place::<F, EF>(alloc, report, ext, element(rng))?;
-    folds::of_coefficients::<F, EF>(alloc, report, ext, element(rng))?;
+    let r: F = element(report);
+    folds::in_place::<F, EF>(alloc, report, polys.2, r);
     report.form = "";
-    Ok(())
 }
 
 /// Compares the calls on polynomials at a drawn point of so many coordinates, with a drawn scale.
 fn at_a_point<F: Field, EF: ExtensionField<F> + Sample>(
     alloc: Global,
     report: &mut Report,
-    rng: &mut Pcg32,
     coordinates: usize,
-    (base, ext): (&Poly<F>, &Poly<EF>),
+    polys: (&Poly<F>, &[EF], &Poly<EF>),
 ) -> Result<(), AllocError> {
-    let point = Point::new(elements(alloc, rng, coordinates)?);
-    let scale = element(rng);
-    splits::compare(alloc, report, (&point, scale), (base, ext))?;
-    polys::compress(alloc, report, (&point, scale), base)?;
-    if base.num_variables() == coordinates {
-        polys::evaluate(alloc, report, &point, (base, ext))?;
-        polys::evaluate_lanes::<F, EF>(alloc, report, &point, ext)?;
-        polys::evaluate_storages::<F, EF>(alloc, report, &point, ext)?;
+    let point = Point::new(elements(alloc, report, coordinates)?);
+    let scale = element(report);
+    let defined = Compressed::new(alloc, point.as_slice(), scale, polys.1)?;
+    splits::compare(alloc, report, (&point, scale), polys, &defined)?;
+    polys::compress(alloc, report, (&point, scale), polys.0, &defined)?;
+    if polys.0.num_variables() == coordinates {
+        polys::evaluate(alloc, report, &point, polys)?;
     }
     Ok(())
 }
@@ -99,22 +96,30 @@ fn at_a_point<F: Field, EF: ExtensionField<F> + Sample>(
 fn tables<F: Field + Sample, EF: ExtensionField<F> + Sample>(
     alloc: Global,
     report: &mut Report,
-    rng: &mut Pcg32,
     variables: usize,
 ) -> Result<(), AllocError> {
-    let point = Point::new(elements::<EF>(alloc, rng, variables)?);
-    let scale = element(rng);
     report.shape = Shape::Polynomial {
         variables,
         coordinates: variables,
     };
-    slices::evaluate::<F, EF>(alloc, report, rng, variables)?;
-    points::over_both::<F, EF>(alloc, report, rng, variables)?;
-    points::steps::<EF>(alloc, report, rng, variables)?;
-    polys::tabulate::<F, EF>(alloc, report, &point, scale)?;
-    polys::tabulate_lanes::<F, EF>(alloc, report, &point, scale)?;
+    slices::evaluate::<F, EF>(alloc, report, variables)?;
+    points::over_both::<F, EF>(alloc, report, variables)?;
+    points::steps::<EF>(alloc, report, variables)?;
+    of_a_point::<F, EF>(alloc, report, variables)?;
     for points in 0..=MOST_POINTS {
-        batches::sum_tables::<F, EF>(alloc, report, rng, points, variables)?;
+        batches::sum_tables::<F, EF>(alloc, report, points, variables)?;
     }
     Ok(())
+}
+
+/// Compares the tables of a drawn point of so many coordinates, with a drawn scale.
+fn of_a_point<F: Field, EF: ExtensionField<F> + Sample>(
+    alloc: Global,
+    report: &mut Report,
+    coordinates: usize,
+) -> Result<(), AllocError> {
+    let point: Vec<EF> = elements(alloc, report, coordinates)?;
+    let scale = element(report);
+    polys::tabulate(alloc, report, &point, scale)?;
+    polys::tabulate_lanes::<F, EF>(alloc, report, &point, scale)
 }

@@ -1,10 +1,12 @@
 //! Split tables, made both ways, beside the table of their point.
-ghost use Rattle.std.specs.Prelude.{◌≡◌, ◌*◌, length};
+ghost use Rattle.std.specs.Prelude.{◌≡◌, ◌*◌, ◌^◌, ◌<◌, ◌≤◌, length, vec_len, IfOk};
 ghost use Rattle.multilinear_util.specs.Split.{split_entries};
 
-use crate::definitions::{next_by, plus_scaled, table, two_and_steps};
+use crate::definitions::{Compressed, Sums, plus_scaled, table};
+use crate::halves::step;
+use crate::lanes::{in_lanes, unpacked};
 use crate::report::Report;
-use mlu_ring::{ExtensionField, Field, PackedValue};
+use mlu_ring::{ExtensionField, Field, PackedValue, PrimeCharacteristicRing};
 use mlu_test_support::lists::filled;
 use mlu_test_support::plain;
 use multilinear_util::point::{Point, Successor};
@@ -15,26 +17,73 @@ use std::alloc::{AllocError, Global};
 /// In how many parts prefix compressions are made: one, an even cut, uneven ones, more than entries.
 const PARTS: [usize; 4] = [1, 2, 3, usize::MAX];
 
-/// Compares both split tables of the point with its table.
+/// Compares both split tables of the point with its table, and with what this leaves of the base.
 pub fn compare<F: Field, EF: ExtensionField<F>>(
     alloc: Global,
     report: &mut Report,
     (point, scale): (&Point<EF>, EF),
-    (base, ext): (&Poly<F>, &Poly<EF>),
+    polys: (&Poly<F>, &[EF], &Poly<EF>),
+    defined: &Compressed<EF>,
 ) -> Result<(), AllocError> {
-    if point.num_variables() >= 32 {
+    let entries = defined.weights.len();
+    if point.num_variables() >= 32
+        || entries != 1 << point.num_variables()
+        || entries > polys.0.num_evals()
+    {
         return Err(AllocError);
     }
-    let entries = table(alloc, point.as_slice(), scale)?;
     report.form = " (new_unpacked)";
-    let unpacked = SplitEq::<F, EF>::new_unpacked(alloc, point, scale)?;
-    compare_entries(alloc, report, &unpacked, &entries, base, ext)?;
-    step_in_second_half(alloc, report, &unpacked, point)?;
+    let split = SplitEq::<F, EF>::new_unpacked(alloc, point, scale);
+    compare_made(alloc, report, split, point, polys, defined)?;
     report.form = " (new_packed)";
-    let packed = SplitEq::<F, EF>::new_packed(alloc, point, scale)?;
-    compare_entries(alloc, report, &packed, &entries, base, ext)?;
-    step_in_second_half(alloc, report, &packed, point)?;
+    let split = SplitEq::<F, EF>::new_packed(alloc, point, scale);
+    compare_made(alloc, report, split, point, polys, defined)?;
     report.form = "";
+    Ok(())
+}
+
+/// Compares a split table of the point, where there is memory for it.
+fn compare_made<F: Field, EF: ExtensionField<F>>(
+    alloc: Global,
+    report: &mut Report,
+    split: Result<SplitEq<F, EF>, AllocError>,
+    point: &Point<EF>,
+    polys: (&Poly<F>, &[EF], &Poly<EF>),
+    defined: &Compressed<EF>,
+) -> Result<(), AllocError>
+    requires split { IfOk split (λ split. length (split_entries EF.ring split) ≡ 2 ^ length point.now) }
+    requires entries { vec_len defined.now.weights ≡ 2 ^ length point.now }
+    requires few { vec_len defined.now.weights ≤ length polys.0.now }
+{
+    let split = split?;
+    step_in_second_half(alloc, report, &split, point)?;
+    compare_entries(alloc, report, &split, polys, &defined.weights)?;
+    compress(alloc, report, &split, polys.0, defined)?;
+    compress_to_lanes(alloc, report, &split, polys.0, defined);
+    compress_moved(alloc, report, &split, polys.0, defined);
+    Ok(())
+}
+
+/// Compares a split table with its entries, and the sums with it.
+fn compare_entries<F: Field, EF: ExtensionField<F>>(
+    alloc: Global,
+    report: &mut Report,
+    split: &SplitEq<F, EF>,
+    polys: (&Poly<F>, &[EF], &Poly<EF>),
+    entries: &[EF],
+) -> Result<(), AllocError>
+    requires { length (split_entries EF.ring split.now) ≡ length entries.now }
+{
+    let last = plain::last(entries);
+    report.value("SplitEq::last_scalar", split.last_scalar(), last);
+    report.table("SplitEq::materialize", split.materialize(alloc), entries);
+    if polys.0.num_evals() == entries.len() {
+        evaluate(alloc, report, split, entries, polys.0, polys.1)?;
+    }
+    if polys.2.num_evals() == entries.len() {
+        accumulate(alloc, report, split, entries, polys.2)?;
+        by_lanes(alloc, report, split, entries, polys.2)?;
+    }
     Ok(())
 }
 
@@ -47,51 +96,12 @@ fn step_in_second_half<F: Field, EF: ExtensionField<F>>(
     point: &Point<EF>,
 ) -> Result<(), AllocError> {
     let half = &point.as_slice()[point.num_variables() / 2..];
-    let weights = table(alloc, half, EF::ONE)?;
-    let mut out = filled(alloc, EF::TWO, weights.len())?;
     if split.eq1().num_variables() != half.len() {
         return Err(AllocError);
     }
-    let (a, b, boundary) = (EF::NEG_ONE, split.last_scalar(), EF::TWO);
-    split
-        .eq1()
-        .accumulate_next_chunk_into(out.as_mut_slice(), a, b, boundary);
-    let sums = two_and_steps(alloc, &weights, (a, b, boundary))?;
-    report.values("EqMaybePacked::accumulate_next_chunk_into", &out, &sums);
-    Ok(())
-}
-
-/// Compares a split table with its entries.
-fn compare_entries<F: Field, EF: ExtensionField<F>>(
-    alloc: Global,
-    report: &mut Report,
-    split: &SplitEq<F, EF>,
-    entries: &[EF],
-    base: &Poly<F>,
-    ext: &Poly<EF>,
-) -> Result<(), AllocError>
-    requires { length (split_entries EF.ring split.now) ≡ length entries.now }
-{
-    report.value(
-        "SplitEq::last_scalar",
-        split.last_scalar(),
-        plain::last(entries),
-    );
-    let whole = split.materialize(alloc)?;
-    report.values("SplitEq::materialize", whole.as_slice(), entries);
-    let images: Vec<EF> = plain::images(alloc, base.as_slice())?;
-    if base.num_evals() == entries.len() {
-        evaluate(alloc, report, split, entries, base, &images)?;
-    }
-    if ext.num_evals() == entries.len() {
-        let value = plain::dot(entries, ext.as_slice());
-        report.value("SplitEq::eval_ext", split.eval_ext(ext.as_view()), value);
-        accumulate(alloc, report, split, entries, ext)?;
-        by_lanes(alloc, report, split, entries, ext)?;
-    }
-    compress(alloc, report, split, entries, base, &images)?;
-    compress_moved(alloc, report, split, entries, base, &images)?;
-    compress_to_lanes(alloc, report, split, entries, base, &images)
+    let weights = table(alloc, half, EF::ONE)?;
+    let factors = (EF::NEG_ONE, split.last_scalar(), EF::TWO);
+    step(alloc, report, split.eq1(), &weights, factors)
 }
 
 /// Compares the values of a polynomial over the base. That of the next rows is also what the moved table
@@ -106,23 +116,24 @@ fn evaluate<F: Field, EF: ExtensionField<F>>(
 ) -> Result<(), AllocError>
     requires { length base.now ≡ length (split_entries EF.ring split.now) }
 {
+    let defined = Sums::new(alloc, entries, images)?;
+    let (repeated, wrapped) = (defined.repeated, defined.wrapped);
     let value = split.eval_base(base.as_view());
-    report.value("SplitEq::eval_base", value, plain::dot(entries, images));
-    let repeated = plain::dot(&next_by(alloc, Successor::RepeatLast, entries)?, images);
+    report.value("SplitEq::eval_base", value, defined.value);
     let value = split.eval_next_base(base.as_view());
     report.value("SplitEq::eval_next_base", value, repeated);
-    let moved = split.compress_prefix_shifted(alloc, base.as_view())?;
-    let sum = plain::last(moved.as_slice()) + split.last_scalar() * plain::last(images);
-    report.value("SplitEq::eval_next_base in two parts", value, sum);
     let value = split.eval_next_base_by(Successor::RepeatLast, base.as_view());
     report.value("SplitEq::eval_next_base_by RepeatLast", value, repeated);
-    let wrapped = plain::dot(&next_by(alloc, Successor::Wrap, entries)?, images);
     let value = split.eval_next_base_by(Successor::Wrap, base.as_view());
     report.value("SplitEq::eval_next_base_by Wrap", value, wrapped);
+    let moved = split.compress_prefix_shifted(alloc, base.as_view())?;
+    let value = plain::last(moved.as_slice()) + split.last_scalar() * plain::last(images);
+    report.value("SplitEq::eval_next_base in two parts", value, repeated);
     Ok(())
 }
 
-/// Compares the table added to values, once and twice.
+/// Compares the value of a polynomial over the extension, and the table added to its values, once and
+/// twice.
 fn accumulate<F: Field, EF: ExtensionField<F>>(
     alloc: Global,
     report: &mut Report,
@@ -132,14 +143,17 @@ fn accumulate<F: Field, EF: ExtensionField<F>>(
 ) -> Result<(), AllocError>
     requires { length ext.now ≡ length (split_entries EF.ring split.now) }
 {
+    let value = plain::dot(entries, ext.as_slice());
+    report.value("SplitEq::eval_ext", split.eval_ext(ext.as_view()), value);
     let mut once = ext.try_clone(alloc)?;
     split.accumulate_into(once.as_mut_slice(), None);
-    let sums = plus_scaled(alloc, ext.as_slice(), EF::ONE, entries)?;
-    report.values("SplitEq::accumulate_into", once.as_slice(), &sums);
+    let sums = plus_scaled(alloc, ext.as_slice(), EF::ONE, entries);
+    report.lists("SplitEq::accumulate_into", Ok(once.into_evals()), sums);
     let mut twice = ext.try_clone(alloc)?;
     split.accumulate_into(twice.as_mut_slice(), Some(EF::TWO));
-    let sums = plus_scaled(alloc, ext.as_slice(), EF::TWO, entries)?;
-    report.values("SplitEq::accumulate_into twice", twice.as_slice(), &sums);
+    let sums = plus_scaled(alloc, ext.as_slice(), EF::TWO, entries);
+    let answer = Ok(twice.into_evals());
+    report.lists("SplitEq::accumulate_into twice", answer, sums);
     Ok(())
 }
 
@@ -151,91 +165,68 @@ fn by_lanes<F: Field, EF: ExtensionField<F>>(
     entries: &[EF],
     ext: &Poly<EF>,
 ) -> Result<(), AllocError>
-    requires { length (split_entries EF.ring split.now) ≡ length entries.now }
+    requires { length ext.now ≡ length (split_entries EF.ring split.now) }
 {
     if ext.num_evals() < F::Packing::WIDTH {
         return Ok(());
     }
-    let mut lanes = ext.pack::<F, EF>(alloc)?;
-    if lanes.num_evals().checked_mul(F::Packing::WIDTH) != Some(entries.len()) {
-        return Err(AllocError);
-    }
-    let value = split.eval_packed(alloc, lanes.as_view())?;
-    report.value(
-        "SplitEq::eval_packed",
-        value,
-        plain::dot(entries, ext.as_slice()),
-    );
+    let value = plain::dot(entries, ext.as_slice());
+    let mut lanes = in_lanes::<F, EF>(alloc, ext)?;
+    let answer = split.eval_packed(alloc, lanes.as_view());
+    report.results("SplitEq::eval_packed", answer, Ok(value));
     split.accumulate_into_packed(alloc, lanes.as_mut_slice(), Some(EF::TWO))?;
-    let sums = plus_scaled(alloc, ext.as_slice(), EF::TWO, entries)?;
-    let after = lanes.unpack::<F, EF>(alloc)?;
-    report.values("SplitEq::accumulate_into_packed", after.as_slice(), &sums);
+    let sums = plus_scaled(alloc, ext.as_slice(), EF::TWO, entries);
+    let answer = unpacked::<F, EF>(alloc, Ok(lanes));
+    report.lists("SplitEq::accumulate_into_packed", answer, sums);
     Ok(())
 }
 
-/// Compares the compressions, and those of a prefix in parts.
+/// Compares the compressions.
 fn compress<F: Field, EF: ExtensionField<F>>(
     alloc: Global,
     report: &mut Report,
     split: &SplitEq<F, EF>,
-    entries: &[EF],
     base: &Poly<F>,
-    images: &[EF],
+    defined: &Compressed<EF>,
 ) -> Result<(), AllocError>
-    requires { length (split_entries EF.ring split.now) ≡ length entries.now }
+    requires entries { length (split_entries EF.ring split.now) ≡ vec_len defined.now.weights }
+    requires few { vec_len defined.now.weights ≤ length base.now }
 {
-    if entries.len() > base.num_evals() {
-        return Err(AllocError);
-    }
-    let suffix = plain::compressed_suffix(alloc, entries, images)?;
-    let left = split.compress_suffix(alloc, base.as_view())?;
-    report.values("SplitEq::compress_suffix", left.as_slice(), &suffix);
-    let mut out = filled(alloc, EF::TWO, suffix.len())?;
-    if out.len().checked_mul(entries.len()) != Some(base.num_evals()) {
+    let answer = split.compress_suffix(alloc, base.as_view());
+    report.table("SplitEq::compress_suffix", answer, &defined.suffix);
+    let answer = split.compress_prefix(alloc, base.as_view());
+    report.table("SplitEq::compress_prefix", answer, &defined.prefix);
+    let mut out = filled(alloc, EF::TWO, defined.suffix.len())?;
+    if out.len().checked_mul(defined.weights.len()) != Some(base.num_evals()) {
         return Err(AllocError);
     }
     split.compress_suffix_into(out.as_mut_slice(), base.as_view());
-    report.values("SplitEq::compress_suffix_into", &out, &suffix);
-    let prefix = plain::compressed_prefix(alloc, entries, images)?;
-    let left = split.compress_prefix(alloc, base.as_view())?;
-    report.values("SplitEq::compress_prefix", left.as_slice(), &prefix);
-    for parts in PARTS {
-        let left = split.compress_prefix_split(alloc, base.as_view(), parts.max(1))?;
-        report.values("SplitEq::compress_prefix_split", left.as_slice(), &prefix);
-    }
+    report.values("SplitEq::compress_suffix_into", &out, &defined.suffix);
     Ok(())
 }
 
-/// Compares the compressions by the table moved up by one place.
+/// Compares the compressions by the table moved up by one place, and the prefix compressions in parts.
 fn compress_moved<F: Field, EF: ExtensionField<F>>(
     alloc: Global,
     report: &mut Report,
     split: &SplitEq<F, EF>,
-    entries: &[EF],
     base: &Poly<F>,
-    images: &[EF],
-) -> Result<(), AllocError>
-    requires { length (split_entries EF.ring split.now) ≡ length entries.now }
+    defined: &Compressed<EF>,
+)
+    requires { length (split_entries EF.ring split.now) ≤ length base.now }
 {
-    if entries.len() > base.num_evals() {
-        return Err(AllocError);
-    }
-    let moved = plain::moved(alloc, entries)?;
-    let suffix = plain::compressed_suffix(alloc, &moved, images)?;
-    let left = split.compress_suffix_shifted(alloc, base.as_view())?;
-    report.values("SplitEq::compress_suffix_shifted", left.as_slice(), &suffix);
-    let prefix = plain::compressed_prefix(alloc, &moved, images)?;
-    let left = split.compress_prefix_shifted(alloc, base.as_view())?;
-    report.values("SplitEq::compress_prefix_shifted", left.as_slice(), &prefix);
+    let (prefix, moved) = (&defined.prefix, &defined.moved_prefix);
+    let suffix = &defined.moved_suffix;
+    let answer = split.compress_suffix_shifted(alloc, base.as_view());
+    report.table("SplitEq::compress_suffix_shifted", answer, suffix);
+    let answer = split.compress_prefix_shifted(alloc, base.as_view());
+    report.table("SplitEq::compress_prefix_shifted", answer, moved);
     for parts in PARTS {
-        let left = split.compress_prefix_shifted_split(alloc, base.as_view(), parts.max(1))?;
-        report.values(
-            "SplitEq::compress_prefix_shifted_split",
-            left.as_slice(),
-            &prefix,
-        );
+        let answer = split.compress_prefix_split(alloc, base.as_view(), parts.max(1));
+        report.table("SplitEq::compress_prefix_split", answer, prefix);
+        let answer = split.compress_prefix_shifted_split(alloc, base.as_view(), parts.max(1));
+        report.table("SplitEq::compress_prefix_shifted_split", answer, moved);
     }
-    Ok(())
 }
 
 /// Compares the prefix compressions to lanes, where values for one packing are left.
@@ -243,32 +234,22 @@ fn compress_to_lanes<F: Field, EF: ExtensionField<F>>(
     alloc: Global,
     report: &mut Report,
     split: &SplitEq<F, EF>,
-    entries: &[EF],
     base: &Poly<F>,
-    images: &[EF],
-) -> Result<(), AllocError>
-    requires { length (split_entries EF.ring split.now) ≡ length entries.now }
+    defined: &Compressed<EF>,
+)
+    requires { length (split_entries EF.ring split.now) ≡ vec_len defined.now.weights }
 {
-    match entries.len().checked_mul(F::Packing::WIDTH) {
+    match defined.weights.len().checked_mul(F::Packing::WIDTH) {
         Some(least) if least <= base.num_evals() => {}
-        _ => return Ok(()),
+        _ => return,
     }
-    let prefix = plain::compressed_prefix(alloc, entries, images)?;
-    let left = split.compress_prefix_to_packed(alloc, base.as_view())?;
-    let left = left.unpack::<F, EF>(alloc)?;
-    report.values(
-        "SplitEq::compress_prefix_to_packed",
-        left.as_slice(),
-        &prefix,
-    );
+    let prefix = &defined.prefix;
+    let answer = split.compress_prefix_to_packed(alloc, base.as_view());
+    let answer = unpacked::<F, EF>(alloc, answer);
+    report.list("SplitEq::compress_prefix_to_packed", answer, prefix);
     for parts in PARTS {
-        let left = split.compress_prefix_to_packed_split(alloc, base.as_view(), parts.max(1))?;
-        let left = left.unpack::<F, EF>(alloc)?;
-        report.values(
-            "SplitEq::compress_prefix_to_packed_split",
-            left.as_slice(),
-            &prefix,
-        );
+        let answer = split.compress_prefix_to_packed_split(alloc, base.as_view(), parts.max(1));
+        let answer = unpacked::<F, EF>(alloc, answer);
+        report.list("SplitEq::compress_prefix_to_packed_split", answer, prefix);
     }
-    Ok(())
 }
