@@ -1,4 +1,7 @@
 //! Worked values, calls of each item at each ring, and what `{:?}` prints.
+ghost use Rattle.std.specs.Prelude.{◌*◌, ◌<◌, ◌^◌};
+ghost use Rattle.std.specs.Mem.{type_size};
+
 mod counted;
 mod dots;
 mod items;
@@ -43,10 +46,13 @@ pub enum Row<EF> {
 pub fn holds<F: Field, EF: ExtensionField<F> + SelfAlgebra>(
     alloc: Global,
     row: Row<EF>,
-) -> Result<bool, AllocError> {
+) -> Result<bool, AllocError>
+    requires packings_fit { 4 * type_size F.Packing.row < 2 ^ 63 }
+    requires elements_fit { 4 * type_size F.row < 2 ^ 63 }
+{
     match row {
         Row::Counted(element, sum) => counted::counts::<F, EF>(alloc, element, sum),
         Row::Items(row) => items::holds::<EF>(alloc, row),
-        Row::Listed(element) => counted::lists::<F, EF>(alloc, element),
+        Row::Listed(element) => Ok(counted::lists::<F, EF>(element)),
     }
 }

@@ -28,6 +28,8 @@ pub enum Row<EF> {
     /// Over the residues as an extension of themselves alone.
     Residues(polynomials::FieldRow),
     Ring(RingRow),
+    /// What is printed of second halves, over the residues alone.
+    SecondHalves,
     Sumcheck(sumcheck::Row),
 }
 
@@ -62,7 +64,7 @@ where
         Row::Kernels(row) => kernels::holds::<BabyBear<W>, EF>(alloc, row),
         Row::Points(row) => points::holds::<BabyBear<W>, EF>(alloc, row),
         Row::Polynomials(row) => polynomials::holds::<BabyBear<W>, EF>(alloc, row),
-        Row::Residues(_) => Ok(false),
+        Row::Residues(_) | Row::SecondHalves => Ok(false),
         Row::Ring(row) => ring_holds::<EF>(alloc, row),
         Row::Sumcheck(row) => sumcheck::holds::<BabyBear<W>, EF>(alloc, row),
     }
@@ -76,6 +78,7 @@ where
 {
     match row {
         Row::Residues(row) => polynomials::holds_over::<BabyBear<W>>(alloc, row),
+        Row::SecondHalves => slices::texts::prints::<BabyBear<W>>(alloc),
         row => over_residues::<W, BabyBear<W>>(alloc, row),
     }
 }

@@ -4,7 +4,7 @@
 mod folds;
 pub mod images;
 mod laws;
-mod texts;
+pub mod texts;
 
 use crate::rings::RingRow::Slices;
 use crate::rings::Row::Ring;

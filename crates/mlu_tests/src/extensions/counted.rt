@@ -1,5 +1,6 @@
 //! Elements made of their coefficients one after the other.
-ghost use Rattle.std.specs.Prelude.{◌≡◌, ◌<◌, length};
+ghost use Rattle.std.specs.Prelude.{◌≡◌, ◌*◌, ◌<◌, ◌^◌, length};
+ghost use Rattle.std.specs.Mem.{type_size};
 
 use super::Row::{Counted, Listed};
 use super::{Bear, quartic};
@@ -9,7 +10,7 @@ use mlu_ext::ProductAlgebra;
 use mlu_ring::{Additive, ExtensionField, Field, Lanewise, PackedFieldExtension, PackedValue};
 use mlu_test_support::lanes::lanes;
 use mlu_test_support::lists::filled;
-use mlu_test_support::numbers::elements;
+use mlu_test_support::numbers::{self, elements};
 use std::alloc::{AllocError, Global};
 use std::test::Fail;
 
@@ -66,22 +67,22 @@ fn of_packed_list<F: Field, EF: ExtensionField<F>>(
 }
 
 /// Whether `element` has the coefficients 1, 2, 3, 4, alone and in the last of four lanes.
-pub fn lists<F: Field, EF: ExtensionField<F>>(
-    alloc: Global,
-    element: EF,
-) -> Result<bool, AllocError> {
+pub fn lists<F: Field, EF: ExtensionField<F>>(element: EF) -> bool
+    requires packings_fit { 4 * type_size F.Packing.row < 2 ^ 63 }
+    requires elements_fit { 4 * type_size F.row < 2 ^ 63 }
+{
     if F::Packing::WIDTH != 4 || EF::DIMENSION != 4 {
-        return Ok(false);
+        return false;
     }
-    let coefficients = elements::<F>(alloc, &[1, 2, 3, 4])?;
-    let in_lanes = [
-        F::Packing::splat(coefficients[0]),
-        F::Packing::splat(coefficients[1]),
-        F::Packing::splat(coefficients[2]),
-        F::Packing::splat(coefficients[3]),
+    let (three, four) = (numbers::element(3), numbers::element(4));
+    let lanes = [
+        F::Packing::splat(F::ONE),
+        F::Packing::splat(F::TWO),
+        F::Packing::splat(three),
+        F::Packing::splat(four),
     ];
-    let packed = of_packed_list::<F, EF>(&in_lanes);
-    Ok(of_list::<F, EF>(&coefficients) == element && packed.ext_lane(3) == element)
+    let packed = of_packed_list::<F, EF>(&lanes);
+    of_list::<F, EF>(&[F::ONE, F::TWO, three, four]) == element && packed.ext_lane(3) == element
 }
 
 #[test]
