@@ -1,5 +1,6 @@
 //! The images of second halves in other rings.
-ghost use Rattle.std.specs.Prelude.{◌≡◌, IfOk, IfSome, length};
+ghost use Rattle.std.specs.Prelude.{◌≡◌, IfOk, IfSome, IsTrue, length};
+ghost use Rattle.std.specs.Int.{is_power_of_two};
 
 use mlu_eq::half::images;
 use mlu_eq::{EqMaybePacked, half, split};
@@ -12,17 +13,15 @@ use mlu_test_support::numbers::elements;
 use rand_pcg::Pcg32;
 use std::alloc::{AllocError, Global};
 
-/// The table of these weights, as scalars, where they are a power of two.
+/// The table of these weights, as scalars.
 fn scalar_half<F: Field, EF: ExtensionField<F>>(
     alloc: Global,
     weights: &[EF],
-) -> Result<Option<EqMaybePacked<F, EF>>, AllocError>
-    ensures { IfOk result (λ half. IfSome half (λ table. length table.weights ≡ length weights.now)) }
+) -> Result<EqMaybePacked<F, EF>, AllocError>
+    requires { IsTrue (is_power_of_two (length weights.now)) }
+    ensures { IfOk result (λ half. length half.weights ≡ length weights.now) }
 {
-    if !weights.len().is_power_of_two() {
-        return Ok(None);
-    }
-    Ok(Some(half::from_scalars(Vec::from_slice(alloc, weights)?)))
+    Ok(half::from_scalars(Vec::from_slice(alloc, weights)?))
 }
 
 /// The packed table of these weights, where they fill packings.
@@ -80,9 +79,10 @@ pub fn images_agree<F: Field, EF: ExtensionField<F> + Sample, R: ExtensionField<
 ) -> Result<bool, AllocError> {
     let mut rng = Pcg32::new(1, 54);
     let weights = drawn::<EF>(alloc, &mut rng, 8)?;
-    let Some(scalar) = scalar_half::<F, EF>(alloc, &weights)? else {
+    if !weights.len().is_power_of_two() {
         return Ok(false);
-    };
+    }
+    let scalar = scalar_half::<F, EF>(alloc, &weights)?;
     let Some(packed) = packed_half::<F, EF>(alloc, &weights)? else {
         return Ok(false);
     };
