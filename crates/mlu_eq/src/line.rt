@@ -29,7 +29,7 @@ pub fn interpolate_base<F: Additive, EF: Algebra<F>>(low: F, high: F, r: EF) -> 
 pub fn interpolate_base_at_fixed<F: Additive, EF: Algebra<F>>(low: F, high: F, r: EF) -> EF
     ensures { result ≡ interpolated EF.ring r (EF.embed low) (EF.embed high) }
 {
-    EF::from_base(high - low).times_fixed(r).plus(low)
+    EF::from_base(low) + EF::from_base(high - low).times_fixed(r)
 }
 
 /// [`interpolate_base`] of the images of two packings.
