@@ -1,4 +1,5 @@
 pub mod Accumulations
+pub mod Appended
 pub mod Borders
 pub mod Compressions
 pub mod Constants

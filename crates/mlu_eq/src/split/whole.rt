@@ -86,22 +86,12 @@ fn push_lanes<F: Field, EF: ExtensionField<F>>(table: &mut Vec<EF>, lanes: EF::E
     ensures len { vec_len table.new ≡ vec_len table.old + F.Packing.WIDTH }
     ensures capacity { vec_capacity table.new ≡ vec_capacity table.old }
 {
-    if !takes_elements::<F, EF>() {
-        return push_each_lane::<F, EF>(table, lanes);
+    if takes_elements::<F, EF>() {
+        let mut places = [EF::ZERO; MOST_LANES];
+        let elements = &mut places[..F::Packing::WIDTH];
+        lanes.store_ext(elements);
+        return push_all(table, elements);
     }
-    let mut places = [EF::ZERO; MOST_LANES];
-    let elements = &mut places[..F::Packing::WIDTH];
-    lanes.store_ext(elements);
-    push_all(table, elements);
-}
-
-/// Appends the lanes, one by one.
-fn push_each_lane<F: Field, EF: ExtensionField<F>>(table: &mut Vec<EF>, lanes: EF::ExtensionPacking)
-    requires { vec_len table.old + F.Packing.WIDTH ≤ vec_capacity table.old }
-    ensures items { table.new.items ≡ table.old.items ++ EF.ExtensionPacking.ext_lanes lanes }
-    ensures len { vec_len table.new ≡ vec_len table.old + F.Packing.WIDTH }
-    ensures capacity { vec_capacity table.new ≡ vec_capacity table.old }
-{
     for k in 0..F::Packing::WIDTH {
         table.push_reserved(lanes.ext_lane(k));
     }

@@ -1,46 +1,24 @@
-use Rattle.std.proofs.Common.{◌≡◌, ◌*◌, ◌∙◌, map, length, take, drop, ap, sym, arith}
+use Rattle.std.proofs.Common.{◌∙◌, ap, arith}
 use Rattle.std.specs.Simd.Lanes.{zip2}
-use Rattle.std.proofs.lemmas.List.{length-map}
-use Rattle.mlu_ring.specs.Lanes.{logical}
-use Rattle.mlu_ring.proofs.Logical.{length-logical}
-use Rattle.mlu_ring.proofs.Zips.{zip_whole}
-use Rattle.mlu_eq.proofs.Accumulations.{lanes-added}
-use Rattle.mlu_eq.proofs.Products.{block}
-use Rattle.mlu_eq.proofs.Zipped.{zip_block_step}
+use Rattle.mlu_eq.proofs.Accumulations.{lanes_step, lanes_whole}
 use Rattle.mlu_eq.proofs.split.accumulate.add_lanes.Goals as goal
 
 pub loop-i-preserved : goal.loop-i-preserved
 loop-i-preserved g c =
     let ring = g.EF.Additive.ring in
-    let packed = g.EF.ExtensionPacking.Additive.ring in
     let ext = g.EF.ExtensionPacking.PackedFieldExtension in
     let met = g.met.EF.ExtensionPacking.PackedFieldExtension in
-    let n = g.F.Packing.PackedValue.WIDTH in
-    let v = c.WIDTH-width.result in
-    let weights = c.args.weights.now in
-    let lanes = logical ext.ext_lanes weights in
-    let table = map (ring.product c.args.factor) lanes in
-    let factors = g.EF.ExtensionPacking.Algebra-1.embed c.args.factor in
-    let weight = c.index-weights-i.result in
-    let many = length-map lanes (ring.product c.args.factor) ∙ length-logical ext.ext_lanes n met.lanes_are.length-parts weights in
-    let added = g.met.EF.ExtensionPacking.Additive.adds c.from_ext_slice.result c.scale-scaled.result c.add-sum.result c.add-sum.ensures in
-    let multiplied = c.scale-scaled.ensures ∙ g.met.EF.ExtensionPacking.Additive.laws.product_comm weight factors in
-    let splat = met.embeds_element c.args.factor in
-    let group = c.from_ext_slice.ensures ∙ block c.loop-i.out c.loop-i.i v ∙ ap (λ k. take k (drop (c.loop-i.i * k) c.loop-i.out)) c.WIDTH-width.ensures in
-    zip_block_step ring.sum c.args.out.now table c.loop-i.out c.store_ext.new.out c.loop-i.i (length weights) v n
-    c.loop-i-test.true c.requires (c.requires ∙ sym many) c.WIDTH-width.ensures c.loop-i.invariant
-    (c.store_ext.ensures
-    ∙ ap ext.ext_lanes (added ∙ ap (packed.sum c.from_ext_slice.result) multiplied)
-    ∙ lanes-added packed ring ext.ext_lanes ext.of_ext_lanes n met.lanes_are met.lane_by_lane c.from_ext_slice.result factors weight weights c.loop-i.i c.args.factor c.loop-i-test.true c.index-weights-i.is splat
-    ∙ ap (λ vs. zip2 ring.sum vs (take n (drop (c.loop-i.i * n) table))) group)
+    let x = c.args.factor in
+    let scaled = c.scale-scaled.result in
+    let sum = g.met.EF.ExtensionPacking.Additive.adds c.from_ext_slice.result scaled c.add-sum.result c.add-sum.ensures in
+    lanes_step g.EF.ExtensionPacking.Additive.ring ring g.met.EF.Additive.laws ext.ext_lanes ext.of_ext_lanes g.F.Packing.PackedValue.WIDTH met.lanes_are met.lane_by_lane
+    c.args.out.now c.loop-i.out c.store_ext.new.out c.args.weights.now (g.EF.ExtensionPacking.Algebra-1.embed x) c.index-weights-i.result c.scale-scaled.result x c.loop-i.i c.WIDTH-width.result
+    c.loop-i-test.true c.requires c.WIDTH-width.ensures c.index-weights-i.is (met.embeds_element x) c.scale-scaled.ensures c.loop-i.invariant
+    (c.store_ext.ensures ∙ ap ext.ext_lanes sum ∙ met.lane_by_lane.sum c.from_ext_slice.result scaled ∙ ap (λ vs. zip2 ring.sum vs (ext.ext_lanes scaled)) c.from_ext_slice.ensures)
 
 pub returns : goal.returns
 returns g c =
-    let ring = g.EF.Additive.ring in
-    let n = g.F.Packing.PackedValue.WIDTH in
-    let long = g.met.EF.ExtensionPacking.PackedFieldExtension.lanes_are.length-parts in
-    let lanes = logical g.EF.ExtensionPacking.PackedFieldExtension.ext_lanes c.args.weights.now in
-    let end : c.loop-i.i ≡ length c.args.weights.now = omega arith in
-    let many = length-map lanes (ring.product c.args.factor) ∙ length-logical g.EF.ExtensionPacking.PackedFieldExtension.ext_lanes n long c.args.weights.now in
-    c.loop-i.invariant
-    ∙ zip_whole ring.sum c.args.out.now (map (ring.product c.args.factor) lanes) (c.loop-i.i * n) (c.requires ∙ ap (λ k. k * n) (sym end)) (c.requires ∙ sym many)
+    let ext = g.EF.ExtensionPacking.PackedFieldExtension in
+    let met = g.met.EF.ExtensionPacking.PackedFieldExtension in
+    lanes_whole g.EF.ExtensionPacking.Additive.ring g.EF.Additive.ring g.met.EF.Additive.laws ext.ext_lanes ext.of_ext_lanes g.F.Packing.PackedValue.WIDTH met.lanes_are met.lane_by_lane
+    c.args.out.now c.loop-i.out c.args.weights.now c.args.factor c.loop-i.i c.requires (omega arith) c.loop-i.invariant

@@ -1,45 +1,17 @@
-use Rattle.std.proofs.Common.{◌≡◌, ◌+◌, ◌*◌, ◌≤◌, refl, ◌++◌, ◌∙◌, length, map, take, ap, sym, arith, append_assoc, append-nil}
-use Rattle.std.proofs.Math.Nat.{mul-le-mul_right}
+use Rattle.std.proofs.Common.{◌*◌, length}
 use Rattle.mlu_ring.specs.Lanes.{logical}
-use Rattle.mlu_eq.specs.Split.{contents}
-use Rattle.mlu_eq.proofs.Contents.{contents-none, contents-take_more}
+use Rattle.mlu_eq.proofs.Appended.{no_rows_appended, row_appended, room_for_row}
 use Rattle.mlu_eq.proofs.split.whole.push_rows_of_lanes.Goals as goal
 
 pub loop-factor-init : goal.loop-factor-init
-loop-factor-init g c =
-    let old = c.args.table.now.items in
-    let w = logical g.EF.ExtensionPacking.PackedFieldExtension.ext_lanes c.args.weights.now in
-    record {
-      items = sym (ap (λ l. old ++ l) (contents-none g.EF.Additive.ring w) ∙ append-nil old);
-      len = omega arith;
-      capacity = refl;
-    }
+loop-factor-init g c = no_rows_appended g.EF.Additive.ring c.args.table.now c.args.table.now c.args.eq0.now (logical g.EF.ExtensionPacking.PackedFieldExtension.ext_lanes c.args.weights.now) (length c.args.weights.now * g.F.Packing.PackedValue.WIDTH)
 
 pub push_row_of_lanes-requires : goal.push_row_of_lanes-requires
 push_row_of_lanes-requires g c =
-    let n = length c.args.weights.now * g.F.Packing.PackedValue.WIDTH in
-    let i = c.loop-factor.factor-index in
-    let len = c.loop-factor.invariant.len in
-    let capacity = c.loop-factor.invariant.capacity in
-    let room : (i + 1) * n ≤ length c.args.eq0.now * n = mul-le-mul_right n (let le : i + 1 ≤ length c.args.eq0.now = omega (arith, c.loop-factor-test.true) in le) in
-    omega (arith, len, capacity, room, c.requires)
+    room_for_row c.args.table.now c.loop-factor.table _ (length c.args.eq0.now) c.loop-factor.factor-index (length c.args.weights.now * g.F.Packing.PackedValue.WIDTH)
+    c.loop-factor-test.true c.requires c.loop-factor.invariant
 
 pub loop-factor-preserved : goal.loop-factor-preserved
 loop-factor-preserved g c =
-    let ring = g.EF.Additive.ring in
-    let old = c.args.table.now.items in
-    let w = logical g.EF.ExtensionPacking.PackedFieldExtension.ext_lanes c.args.weights.now in
-    let eq0 = c.args.eq0.now in
-    let x = c.factor-item.result in
-    let i = c.loop-factor.factor-index in
-    let before = contents ring (take i eq0) w in
-    let len = c.loop-factor.invariant.len in
-    let longer = c.push_row_of_lanes.ensures.len in
-    record {
-      items = c.push_row_of_lanes.ensures.items
-          ∙ ap (λ l. l ++ map (ring.product x) w) c.loop-factor.invariant.items
-          ∙ append_assoc old before (map (ring.product x) w)
-          ∙ ap (λ l. old ++ l) (sym (contents-take_more ring eq0 w i x c.loop-factor-test.true c.factor-item.is));
-      len = omega (arith, len, longer);
-      capacity = c.push_row_of_lanes.ensures.capacity ∙ c.loop-factor.invariant.capacity;
-    }
+    row_appended g.EF.Additive.ring c.args.table.now c.loop-factor.table c.args.eq0.now (logical g.EF.ExtensionPacking.PackedFieldExtension.ext_lanes c.args.weights.now) (length c.args.weights.now * g.F.Packing.PackedValue.WIDTH)
+    c.push_row_of_lanes.new.table c.loop-factor.factor-index c.factor-item.result c.loop-factor-test.true c.factor-item.is c.loop-factor.invariant c.push_row_of_lanes.ensures
