@@ -30,7 +30,7 @@ pub enum FieldRow {
 pub enum Row {
     Field(FieldRow),
     Values,
-    Batches,
+    Batches(batches::Batch),
 }
 
 /// Whether the row over one field holds.
@@ -50,7 +50,7 @@ pub fn holds<F: Field, EF: ExtensionField<F>>(alloc: Global, row: Row) -> Result
     match row {
         Row::Field(row) => holds_over::<EF>(alloc, row),
         Row::Values => evaluations::values::<F, EF>(alloc),
-        Row::Batches => batches::rows::<F, EF>(alloc),
+        Row::Batches(batch) => batches::holds::<F, EF>(alloc, batch),
     }
 }
 
@@ -104,14 +104,5 @@ fn values_at_points(rt: HostRuntime) -> Result<(), Fail> {
     assert!(rt; copies::<4, 2>(rt.alloc(), Points(Row::Values))?);
     assert!(rt; copies::<4, 2>(rt.alloc(), Points(Row::Field(FieldRow::Steps)))?);
     assert!(rt; residues::<4>(rt.alloc(), Points(Row::Field(FieldRow::Steps)))?);
-    Ok(())
-}
-
-#[test]
-fn batches_of_points(rt: HostRuntime) -> Result<(), Fail> {
-    assert!(rt; quartics_alone(rt.alloc(), Row::Batches)?);
-    assert!(rt; residues::<1>(rt.alloc(), Points(Row::Batches))?);
-    assert!(rt; residues::<2>(rt.alloc(), Points(Row::Batches))?);
-    assert!(rt; copies::<4, 2>(rt.alloc(), Points(Row::Batches))?);
     Ok(())
 }

@@ -25,21 +25,36 @@ pub fn counts<F: Field, EF: ExtensionField<F>>(
         return Ok(false);
     }
     let step = F::Packing::load(&elements::<F>(alloc, &[1, 2, 3, 4])?);
-    let (mut last, mut last_lanes) = (F::ZERO, F::Packing::ZERO);
-    let counted = EF::from_coefficients_fn(|_k| {
+    let twice = filled(alloc, counted_lanes::<F, EF>(step), 2)?;
+    let lanes = lanes::<F, EF>(alloc, &twice)?;
+    Ok(counted::<F, EF>() == element && total(&lanes) == sum)
+}
+
+/// The element with the coefficients 1, 2, ..
+fn counted<F: Field, EF: ExtensionField<F>>() -> EF {
+    let mut last = F::ZERO;
+    EF::from_coefficients_fn(|_k| {
         last = last + F::ONE;
         last
-    });
-    let packed = EF::ExtensionPacking::from_packed_coefficients_fn(|_k| {
-        last_lanes = last_lanes + step;
-        last_lanes
-    });
-    let twice = filled(alloc, packed, 2)?;
-    let mut total = EF::ZERO;
-    for lane in &lanes::<F, EF>(alloc, &twice)? {
-        total = total + *lane;
+    })
+}
+
+/// The packed element with the coefficients `step`, twice `step`, ..
+fn counted_lanes<F: Field, EF: ExtensionField<F>>(step: F::Packing) -> EF::ExtensionPacking {
+    let mut last = F::Packing::ZERO;
+    EF::ExtensionPacking::from_packed_coefficients_fn(|_k| {
+        last = last + step;
+        last
+    })
+}
+
+/// The sum of the elements.
+fn total<R: Additive>(elements: &[R]) -> R {
+    let mut sum = R::ZERO;
+    for element in elements {
+        sum = sum + *element;
     }
-    Ok(counted == element && total == sum)
+    sum
 }
 
 /// The element with these coefficients, which are read by their numbers.
