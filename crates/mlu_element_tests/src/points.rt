@@ -30,7 +30,8 @@ pub enum FieldRow {
 pub enum Row {
     Field(FieldRow),
     Values,
-    Batches(batches::Batch),
+    /// The batch of this number.
+    Batch(usize),
 }
 
 /// Whether the row over one field holds.
@@ -50,7 +51,7 @@ pub fn holds<F: Field, EF: ExtensionField<F>>(alloc: Global, row: Row) -> Result
     match row {
         Row::Field(row) => holds_over::<EF>(alloc, row),
         Row::Values => evaluations::values::<F, EF>(alloc),
-        Row::Batches(batch) => batches::holds::<F, EF>(alloc, batch),
+        Row::Batch(number) => batches::holds::<F, EF>(alloc, number),
     }
 }
 

@@ -54,11 +54,7 @@ fn batches(rt: HostRuntime) -> Result<(), Fail> {
     let columns = RowMajorMatrixView::new(&points, 3);
     eval_eq_batch::<BabyBear<4>, _, false>(rt.alloc(), columns, &mut out, &scalars)?;
     assert!(rt; out == [0, 3, 2, 5].map(BabyBear::from_u32));
-    Ok(())
-}
-
-#[test]
-fn batches_in_chunks(rt: HostRuntime) -> Result<(), Fail> {
+    // one point, its table added in two chunks
     let point = [2, 3].map(BabyBear::<4>::from_u32);
     let mut out = [BabyBear::<4>::ONE; 4];
     let column = RowMajorMatrixView::new_col(&point);

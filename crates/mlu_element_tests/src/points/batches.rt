@@ -2,7 +2,7 @@
 ghost use Rattle.std.specs.Prelude.{◌≡◌, ◌<◌, ◌≤◌, ◌/◌, ◌^◌, length};
 ghost use Rattle.mlu_ring.specs.Matrices.{AreRows};
 
-use super::Row::Batches;
+use super::Row;
 use crate::rings::Row::Points;
 use crate::rings::{copies, quartics_alone, residues};
 use mlu_point::eq_batch::{
@@ -13,10 +13,13 @@ use mlu_test_support::numbers::{are, elements};
 use std::alloc::{AllocError, Global};
 use std::test::Fail;
 
+/// How many batches there are.
+const BATCHES: usize = 14;
+
 /// A batch of points, the columns of rows, written or added, whole and in chunks: what stands in the output before
 /// it, and what after it.
 #[derive(Clone, Copy)]
-pub struct Batch {
+struct Batch {
     is_added: bool,
     log_chunks: usize,
     rows: &'static [i32],
@@ -28,11 +31,14 @@ pub struct Batch {
     ghost chunks: { 0 < length scalars.now → log_chunks ≤ length rows.now / length scalars.now },
 }
 
-/// Whether the batch leaves what it is to leave.
+/// Whether the batch of this number leaves what it is to leave.
 pub fn holds<F: Field, EF: ExtensionField<F>>(
     alloc: Global,
-    batch: Batch,
+    number: usize,
 ) -> Result<bool, AllocError> {
+    let Some(batch) = batches().get(number).copied() else {
+        return Ok(false);
+    };
     if batch.is_added {
         by_both::<F, EF, true>(alloc, batch)
     } else {
@@ -40,7 +46,7 @@ pub fn holds<F: Field, EF: ExtensionField<F>>(
     }
 }
 
-/// [`holds`], by coordinates of both fields.
+/// Whether the batch leaves what it is to leave, by coordinates of both fields.
 fn by_both<F: Field, EF: ExtensionField<F>, const INITIALIZED: bool>(
     alloc: Global,
     batch: Batch,
@@ -54,7 +60,7 @@ fn by_both<F: Field, EF: ExtensionField<F>, const INITIALIZED: bool>(
     )
 }
 
-/// [`holds`], by coordinates of the extension.
+/// [`by_both`], by coordinates of the extension.
 fn leaves<F: Field, EF: ExtensionField<F>, const INITIALIZED: bool>(
     alloc: Global,
     batch: Batch,
@@ -74,7 +80,7 @@ fn leaves<F: Field, EF: ExtensionField<F>, const INITIALIZED: bool>(
     Ok(are(&whole, batch.after) && are(&pieces, batch.after))
 }
 
-/// [`holds`], by coordinates of the base field.
+/// [`by_both`], by coordinates of the base field.
 fn leaves_by_base<F: Field, EF: ExtensionField<F>, const INITIALIZED: bool>(
     alloc: Global,
     batch: Batch,
@@ -131,7 +137,7 @@ fn one_point(log_chunks: usize) -> Batch
 
 /// Three vertices of two variables, and two; no points, in two places and in three; two points without coordinates,
 /// whose one place takes both scalars; and one point.
-fn batches() -> [Batch; 14] {
+fn batches() -> [Batch; BATCHES] {
     [
         whole(
             false,
@@ -164,23 +170,23 @@ fn batches() -> [Batch; 14] {
 
 #[test]
 fn batches_of_points(rt: HostRuntime) -> Result<(), Fail> {
-    for (index, batch) in batches().into_iter().enumerate() {
+    for n in 0..BATCHES {
         let alloc = rt.alloc();
         assert!(rt;
-            quartics_alone(alloc, Batches(batch))?,
-            "quartics, batch {index}"
+            quartics_alone(alloc, Row::Batch(n))?,
+            "quartics, batch {n}"
         );
         assert!(rt;
-            residues::<1>(alloc, Points(Batches(batch)))?,
-            "residues alone, batch {index}"
+            residues::<1>(alloc, Points(Row::Batch(n)))?,
+            "residues alone, batch {n}"
         );
         assert!(rt;
-            residues::<2>(alloc, Points(Batches(batch)))?,
-            "residues in pairs, batch {index}"
+            residues::<2>(alloc, Points(Row::Batch(n)))?,
+            "residues in pairs, batch {n}"
         );
         assert!(rt;
-            copies::<4, 2>(alloc, Points(Batches(batch)))?,
-            "copies, batch {index}"
+            copies::<4, 2>(alloc, Points(Row::Batch(n)))?,
+            "copies, batch {n}"
         );
     }
     Ok(())

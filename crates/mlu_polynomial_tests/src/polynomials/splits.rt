@@ -123,6 +123,17 @@ fn has_rows<R: PrimeCharacteristicRing>(
     Ok(are(rows.as_slice(), weights))
 }
 
+/// [`has_rows`] where the last row repeats, and where rows go round.
+fn has_rows_by_rules<R: PrimeCharacteristicRing>(alloc: Global) -> Result<bool, AllocError> {
+    let (last, wrap) = (Successor::RepeatLast, Successor::Wrap);
+    Ok(
+        has_rows::<R>(alloc, last, &[2, 3], &[0, 2, -3, 2])?
+            && has_rows::<R>(alloc, wrap, &[2, 3], &[6, 2, -3, -4])?
+            && has_rows::<R>(alloc, last, &[], &[1])?
+            && has_rows::<R>(alloc, wrap, &[], &[1])?,
+    )
+}
+
 /// Whether 1, 2, 3, 4 meet the successors of the rows of the point (2, 3) with this sum.
 fn meets<R: ExtensionField<R>>(
     alloc: Global,
@@ -154,10 +165,7 @@ fn sums_to<R: ExtensionField<R>>(
 pub fn meets_successors<R: ExtensionField<R>>(alloc: Global) -> Result<bool, AllocError> {
     let (last, wrap) = (Successor::RepeatLast, Successor::Wrap);
     Ok(
-        has_rows::<R>(alloc, last, &[2, 3], &[0, 2, -3, 2])?
-            && has_rows::<R>(alloc, wrap, &[2, 3], &[6, 2, -3, -4])?
-            && has_rows::<R>(alloc, last, &[], &[1])?
-            && has_rows::<R>(alloc, wrap, &[], &[1])?
+        has_rows_by_rules::<R>(alloc)?
             && meets::<R>(alloc, last, 3)?
             && meets::<R>(alloc, wrap, -15)?
             && sums_to::<R>(alloc, last, &[2], &[3, 4], 20)?
