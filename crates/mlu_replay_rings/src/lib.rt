@@ -23,9 +23,9 @@ macro_rules! over_rings {
             "b" => residues::<$width>($op, $words),
             "m" => quartics_over_residues::<$width>($op, $words),
             "e" => over_base::<BabyBear<$width>, QuarticExtension<BabyBear<$width>>>($op, $words),
-            "p0" => no_copies::<$width>($op, $words),
-            "p1" => one_copy::<$width>($op, $words),
-            "p9" => nine_copies::<$width>($op, $words),
+            "p0" => copies::<$width, 0>($op, $words),
+            "p1" => copies::<$width, 1>($op, $words),
+            "p9" => copies::<$width, 9>($op, $words),
             "u" => residues_of_words::<$width>($op, $words),
             _ => Err(Fault::Unknown(Reason::Tag)),
         }
@@ -111,29 +111,12 @@ where
     over_residues::<W, QuarticExtension<BabyBear<W>>>(op, words)
 }
 
-/// Over the residues modulo a prime, with products of no copies: the ring of one element.
-fn no_copies<const W: usize>(op: &str, words: &mut Words<'_>) -> Result<String, Fault>
+/// Over the residues modulo a prime, with products of `D` copies; of none, the ring of one element.
+fn copies<const W: usize, const D: usize>(op: &str, words: &mut Words<'_>) -> Result<String, Fault>
 where
     Lanes<BabyBear<W>, W>: LaneWidth<W>,
-    requires { W < 32 }
+    requires width { W < 32 }
+    requires few { D < 10 }
 {
-    over_residues::<W, ProductAlgebra<BabyBear<W>, 0>>(op, words)
-}
-
-/// Over the residues modulo a prime, with products of one copy.
-fn one_copy<const W: usize>(op: &str, words: &mut Words<'_>) -> Result<String, Fault>
-where
-    Lanes<BabyBear<W>, W>: LaneWidth<W>,
-    requires { W < 32 }
-{
-    over_residues::<W, ProductAlgebra<BabyBear<W>, 1>>(op, words)
-}
-
-/// Over the residues modulo a prime, with products of nine copies.
-fn nine_copies<const W: usize>(op: &str, words: &mut Words<'_>) -> Result<String, Fault>
-where
-    Lanes<BabyBear<W>, W>: LaneWidth<W>,
-    requires { W < 32 }
-{
-    over_residues::<W, ProductAlgebra<BabyBear<W>, 9>>(op, words)
+    over_residues::<W, ProductAlgebra<BabyBear<W>, D>>(op, words)
 }

@@ -12,7 +12,7 @@ ghost use Rattle.std.specs.Prelude.{◌<◌};
 
 mod rings;
 
-use crate::rings::{nine_copies, no_copies, one_copy, quartics, residues, words};
+use crate::rings::{copies, quartics, residues, words};
 use mlu_lanes::{BabyBear, LaneWidth, Lanes, WrappingU64};
 use mlu_sweep_calls::Difference;
 use std::alloc::{AllocError, Global};
@@ -84,9 +84,9 @@ where
     tell(out, "residues", W, residues::<W>(alloc, most))?;
     tell(out, "words", W, words::<W>(alloc, most))?;
     tell(out, "quartics", W, quartics::<W>(alloc, most))?;
-    tell(out, "no copies", W, no_copies::<W>(alloc, most))?;
-    tell(out, "one copy", W, one_copy::<W>(alloc, most))?;
-    tell(out, "nine copies", W, nine_copies::<W>(alloc, most))
+    tell(out, "no copies", W, copies::<W, 0>(alloc, most))?;
+    tell(out, "one copy", W, copies::<W, 1>(alloc, most))?;
+    tell(out, "nine copies", W, copies::<W, 9>(alloc, most))
 }
 
 /// Sweeps all rings at all lane widths.

@@ -53,38 +53,15 @@ where
     over_residues::<W, QuarticExtension<BabyBear<W>>>(alloc, most)
 }
 
-/// No copies of the integers modulo 2013265921, side by side.
-pub fn no_copies<const W: usize>(
+/// `D` copies of the integers modulo 2013265921, side by side.
+pub fn copies<const W: usize, const D: usize>(
     alloc: Global,
     most: usize,
 ) -> Result<Option<Difference>, AllocError>
 where
     Lanes<BabyBear<W>, W>: LaneWidth<W>,
-    requires { W < 32 }
+    requires width { W < 32 }
+    requires few { D < 10 }
 {
-    over_residues::<W, ProductAlgebra<BabyBear<W>, 0>>(alloc, most)
-}
-
-/// One copy of the integers modulo 2013265921, side by side.
-pub fn one_copy<const W: usize>(
-    alloc: Global,
-    most: usize,
-) -> Result<Option<Difference>, AllocError>
-where
-    Lanes<BabyBear<W>, W>: LaneWidth<W>,
-    requires { W < 32 }
-{
-    over_residues::<W, ProductAlgebra<BabyBear<W>, 1>>(alloc, most)
-}
-
-/// Nine copies of the integers modulo 2013265921, side by side.
-pub fn nine_copies<const W: usize>(
-    alloc: Global,
-    most: usize,
-) -> Result<Option<Difference>, AllocError>
-where
-    Lanes<BabyBear<W>, W>: LaneWidth<W>,
-    requires { W < 32 }
-{
-    over_residues::<W, ProductAlgebra<BabyBear<W>, 9>>(alloc, most)
+    over_residues::<W, ProductAlgebra<BabyBear<W>, D>>(alloc, most)
 }
