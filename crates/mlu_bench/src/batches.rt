@@ -3,7 +3,7 @@ ghost use Rattle.std.specs.Prelude.{◌≡◌, ◌<◌, ◌/◌, ◌^◌, IsTrue
 ghost use Rattle.mlu_ring.specs.Matrices.{AreRows};
 
 use crate::calls::Calls;
-use crate::case::{Case, first};
+use crate::case::{Case, first, is_table};
 use mlu_ring::{ExtensionField, Field, PrimeCharacteristicRing, RowMajorMatrixView};
 use multilinear_util::eq_batch::{eval_eq_base_batch, eval_eq_batch};
 use std::alloc::{AllocError, Global};
@@ -32,11 +32,7 @@ fn is_batch(values: usize, points: usize, entries: usize) -> bool
     if points == 0 || values % points != 0 {
         return false;
     }
-    let variables = values / points;
-    if variables >= 32 {
-        return false;
-    }
-    entries == 1 << variables
+    is_table(entries, values / points)
 }
 
 impl<F: Field, EF: ExtensionField<F>> Calls for BatchCalls<'_, F, EF> {

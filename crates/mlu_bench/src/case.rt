@@ -59,34 +59,39 @@ pub fn is_small<R>(point: &[R]) -> bool
     point.len() < 32
 }
 
-/// Whether the table has at least an entry for each weight of the point.
-pub fn is_within<F: Copy, EF: Copy>(point: &Point<EF>, table: &Poly<F>) -> bool
-    ensures { IsTrue result → 2 ^ length point.now ≤ length table.now }
+/// Whether so many entries are a table of so many variables, below 32.
+pub fn is_table(entries: usize, variables: usize) -> bool
+    ensures { IsTrue result → entries ≡ 2 ^ variables }
 {
-    let variables = point.num_variables();
-    if variables >= 32 {
-        return false;
-    }
-    1 << variables <= table.num_evals()
+    variables < 32 && entries == 1 << variables
 }
 
-/// Whether it has so many where each weight counts for each of the lanes.
-pub fn is_within_lanes<F: Copy, EF: Copy>(point: &Point<EF>, lanes: usize, table: &Poly<F>) -> bool
-    ensures { IsTrue result → 2 ^ length point.now * lanes ≤ length table.now }
+/// Whether a table of so many variables, below 32, has no more entries than these.
+pub fn is_within(variables: usize, entries: usize) -> bool
+    ensures { IsTrue result → 2 ^ variables ≤ entries }
 {
-    let variables = point.num_variables();
+    variables < 32 && 1 << variables <= entries
+}
+
+/// Whether a table of so many variables, below 32, times so many lanes, has no more entries than these.
+pub fn is_within_lanes(variables: usize, lanes: usize, entries: usize) -> bool
+    ensures { IsTrue result → 2 ^ variables * lanes ≤ entries }
+{
     if variables >= 32 {
         return false;
     }
     match (1_usize << variables).checked_mul(lanes) {
-        Some(places) => places <= table.num_evals(),
+        Some(places) => places <= entries,
         None => false,
     }
 }
 
-/// Whether the table has an entry for each weight of the point.
-pub fn fits<F: Copy, EF: Copy>(point: &Point<EF>, table: &Poly<F>) -> bool
-    ensures { IsTrue result → length table.now ≡ 2 ^ length point.now }
+/// Whether so many groups have so many lanes each, one for each entry of a table of so many variables.
+pub fn are_lanes(groups: usize, width: usize, variables: usize) -> bool
+    ensures { IsTrue result → groups * width ≡ 2 ^ variables }
 {
-    table.num_variables() == point.num_variables()
+    match groups.checked_mul(width) {
+        Some(lanes) => is_table(lanes, variables),
+        None => false,
+    }
 }

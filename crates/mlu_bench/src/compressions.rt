@@ -1,7 +1,4 @@
 //! Compressions of a table over the base at half of a point.
-ghost use Rattle.std.specs.Prelude.{◌≤◌, length, IsTrue};
-ghost use Rattle.multilinear_util.specs.Split.{split_entries};
-ghost use Rattle.multilinear_util.specs.Views.{entries};
 
 use crate::calls::Calls;
 use crate::case::{Case, first_lane_of, first_of, is_within, is_within_lanes};
@@ -26,7 +23,7 @@ impl<'a, F: Field, EF: ExtensionField<F>> CompressionCalls<'a, F, EF> {
     /// The calls with this number, over a split table that is made once.
     pub fn new(alloc: Global, case: &'a Case<F, EF>, call: u32) -> Result<Self, AllocError> {
         let part = half_of(alloc, &case.point, call == 2 || call == 4)?;
-        let split = split_table(alloc, &part, case.scale)?;
+        let split = split_table(alloc, &part, case.scale, true)?;
         Ok(CompressionCalls {
             table: &case.base,
             scale: case.scale,
@@ -51,7 +48,7 @@ fn at_point<F: Field, EF: ExtensionField<F>>(
     scale: EF,
     call: u32,
 ) -> Result<Poly<EF>, AllocError> {
-    if !is_within(point, table) {
+    if !is_within(point.num_variables(), table.num_evals()) {
         return Err(AllocError);
     }
     match call {
@@ -67,24 +64,11 @@ fn packed_at_point<F: Field, EF: ExtensionField<F>>(
     point: &Point<EF>,
     scale: EF,
 ) -> Result<Poly<EF::ExtensionPacking>, AllocError> {
-    if !is_within_lanes(point, <F::Packing as PackedValue>::WIDTH, table) {
+    let width = <F::Packing as PackedValue>::WIDTH;
+    if !is_within_lanes(point.num_variables(), width, table.num_evals()) {
         return Err(AllocError);
     }
     table.compress_prefix_to_packed(alloc, point, scale)
-}
-
-/// Whether the table has at least an entry for each of the split table.
-fn is_split_within<F: Field, EF: ExtensionField<F>>(
-    split: &SplitEq<F, EF>,
-    table: PolyView<'_, F>,
-) -> bool
-    ensures { IsTrue result → length (split_entries EF.ring split.now) ≤ length (entries table.entry) }
-{
-    let variables = split.num_variables();
-    if variables >= 32 {
-        return false;
-    }
-    1 << variables <= table.num_evals()
 }
 
 /// The table with its first (3) or its last (4) variables by the split table, moved.
@@ -94,7 +78,7 @@ fn shifted<F: Field, EF: ExtensionField<F>>(
     split: &SplitEq<F, EF>,
     call: u32,
 ) -> Result<Poly<EF>, AllocError> {
-    if !is_split_within(split, table) {
+    if !is_within(split.num_variables(), table.num_evals()) {
         return Err(AllocError);
     }
     match call {

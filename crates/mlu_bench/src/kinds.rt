@@ -8,13 +8,13 @@ use crate::case::{Case, first};
 use crate::compressions::CompressionCalls;
 use crate::folds::FoldCalls;
 use crate::in_place::sum_on_copies;
-use crate::packed::PackedCalls;
+use crate::packed::{PackedCalls, packed_table};
 use crate::rounds::{ProofCalls, sum_of_rounds};
 use crate::sequences::SequenceCalls;
 use crate::splits::{PackedSplitCalls, SplitCalls};
 use crate::tables::TableCalls;
 use crate::values::ValueCalls;
-use mlu_ring::{Algebra, ExtensionField, Field, PackedFieldExtension, PackedValue, SelfAlgebra};
+use mlu_ring::{Algebra, ExtensionField, Field, PackedFieldExtension, SelfAlgebra};
 use multilinear_util::point::Point;
 use multilinear_util::poly::Poly;
 use std::alloc::{AllocError, Global};
@@ -88,11 +88,7 @@ fn sum_of_packed<F: Field, EF: ExtensionField<F>>(
     call: u32,
     rounds: usize,
 ) -> Result<EF, AllocError> {
-    let width = <F::Packing as PackedValue>::WIDTH;
-    if width == 0 || case.ext.num_evals() < width {
-        return Err(AllocError);
-    }
-    let packed = case.ext.pack::<F, EF>(alloc)?;
+    let packed = packed_table::<F, EF>(alloc, &case.ext)?;
     if kind == 6 {
         let packed = &packed;
         return sum_of_calls(alloc, Ok(PackedCalls { case, packed }), call, rounds);

@@ -1,8 +1,7 @@
 //! Tables of packed elements: made, unpacked and evaluated.
-ghost use Rattle.std.specs.Prelude.{◌≡◌, ◌*◌, ◌^◌, length, IsTrue};
 
 use crate::calls::Calls;
-use crate::case::{Case, first_lane_of, first_of, is_small};
+use crate::case::{Case, are_lanes, first_lane_of, first_of, is_small};
 use mlu_ring::{ExtensionField, Field, PackedValue};
 use multilinear_util::point::Point;
 use multilinear_util::poly::Poly;
@@ -17,7 +16,7 @@ pub struct PackedCalls<'a, F: Field, EF: ExtensionField<F>> {
 }
 
 /// The table packed.
-fn packed_table<F: Field, EF: ExtensionField<F>>(
+pub fn packed_table<F: Field, EF: ExtensionField<F>>(
     alloc: Global,
     table: &Poly<EF>,
 ) -> Result<Poly<EF::ExtensionPacking>, AllocError> {
@@ -51,24 +50,14 @@ pub fn packed_fold<F: Field, EF: ExtensionField<F>>(
     table.fix_prefix_var_to_packed(alloc, r)
 }
 
-/// Whether the table has a lane for each weight of the point.
-fn has_lanes<P: Copy, EF: Copy>(packed: &Poly<P>, width: usize, point: &Point<EF>) -> bool
-    ensures { IsTrue result → length packed.now * width ≡ 2 ^ length point.now }
-{
-    let variables = point.num_variables();
-    if variables >= 32 {
-        return false;
-    }
-    packed.num_evals().checked_mul(width) == Some(1 << variables)
-}
-
 /// The value of the packed table at the point.
 fn value<F: Field, EF: ExtensionField<F>>(
     alloc: Global,
     packed: &Poly<EF::ExtensionPacking>,
     point: &Point<EF>,
 ) -> Result<EF, AllocError> {
-    if !has_lanes(packed, <F::Packing as PackedValue>::WIDTH, point) {
+    let width = <F::Packing as PackedValue>::WIDTH;
+    if !are_lanes(packed.num_evals(), width, point.num_variables()) {
         return Err(AllocError);
     }
     packed.eval_packed::<F, EF>(alloc, point)

@@ -26,7 +26,7 @@ pub struct ProofCalls<'a, F: Field, EF: ExtensionField<F>> {
 impl<'a, F: Field, EF: ExtensionField<F>> ProofCalls<'a, F, EF> {
     /// The calls, over a split table that is made once.
     pub fn new(alloc: Global, case: &'a Case<F, EF>) -> Result<Self, AllocError> {
-        let weights = split_table(alloc, &case.point, EF::ONE)?;
+        let weights = split_table(alloc, &case.point, EF::ONE, true)?;
         Ok(ProofCalls { case, weights })
     }
 }

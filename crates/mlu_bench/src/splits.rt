@@ -1,37 +1,29 @@
 //! A split table written out, and added to a table.
-ghost use Rattle.std.specs.Prelude.{◌≡◌, length, IsTrue};
-ghost use Rattle.multilinear_util.specs.Split.{split_entries};
 
 use crate::calls::Calls;
-use crate::case::{Case, first, first_lane, first_of, is_small};
+use crate::case::{Case, are_lanes, first, first_lane, first_of, is_small, is_table};
 use mlu_ring::{ExtensionField, Field, PackedValue, PrimeCharacteristicRing};
 use multilinear_util::point::Point;
 use multilinear_util::poly::Poly;
 use multilinear_util::split_eq::SplitEq;
 use std::alloc::{AllocError, Global};
 
-/// The split table of the point, times a scale; an error where it does not fit the address space.
+/// The split table of the point, times a scale, with its second half packed or as scalars; an error where
+/// it does not fit the address space.
 pub fn split_table<F: Field, EF: ExtensionField<F>>(
     alloc: Global,
     point: &Point<EF>,
     scale: EF,
+    is_packed: bool,
 ) -> Result<SplitEq<F, EF>, AllocError> {
     if !is_small(point.as_slice()) {
         return Err(AllocError);
     }
-    SplitEq::new_packed(alloc, point, scale)
-}
-
-/// As [`split_table`], with scalars in both halves.
-pub fn unpacked_split_table<F: Field, EF: ExtensionField<F>>(
-    alloc: Global,
-    point: &Point<EF>,
-    scale: EF,
-) -> Result<SplitEq<F, EF>, AllocError> {
-    if !is_small(point.as_slice()) {
-        return Err(AllocError);
+    if is_packed {
+        SplitEq::new_packed(alloc, point, scale)
+    } else {
+        SplitEq::new_unpacked(alloc, point, scale)
     }
-    SplitEq::new_unpacked(alloc, point, scale)
 }
 
 /// The split table of the point added to a table (0), and written out (1).
@@ -44,7 +36,7 @@ pub struct SplitCalls<F: Field, EF: ExtensionField<F>> {
 impl<F: Field, EF: ExtensionField<F>> SplitCalls<F, EF> {
     /// The calls, over a split table and a table of zeros that are made once.
     pub fn new(alloc: Global, case: &Case<F, EF>) -> Result<Self, AllocError> {
-        let split = split_table(alloc, &case.point, case.scale)?;
+        let split = split_table(alloc, &case.point, case.scale, true)?;
         let out = EF::zero_vec(alloc, case.ext.num_evals())?;
         Ok(SplitCalls { split, out })
     }
@@ -55,22 +47,11 @@ fn add<F: Field, EF: ExtensionField<F>>(
     split: &SplitEq<F, EF>,
     out: &mut [EF],
 ) -> Result<(), AllocError> {
-    if !has_entries(split, out.len()) {
+    if !is_table(out.len(), split.num_variables()) {
         return Err(AllocError);
     }
     split.accumulate_into(out, None);
     Ok(())
-}
-
-/// Whether the split table has so many entries.
-fn has_entries<F: Field, EF: ExtensionField<F>>(split: &SplitEq<F, EF>, entries: usize) -> bool
-    ensures { IsTrue result → entries ≡ length (split_entries EF.ring split.now) }
-{
-    let variables = split.num_variables();
-    if variables >= 32 {
-        return false;
-    }
-    entries == 1 << variables
 }
 
 /// The split table written out, with so many entries.
@@ -79,7 +60,7 @@ fn written<F: Field, EF: ExtensionField<F>>(
     split: &SplitEq<F, EF>,
     entries: usize,
 ) -> Result<Poly<EF>, AllocError> {
-    if !has_entries(split, entries) {
+    if !is_table(entries, split.num_variables()) {
         return Err(AllocError);
     }
     split.materialize(alloc)
@@ -109,7 +90,7 @@ impl<F: Field, EF: ExtensionField<F>> PackedSplitCalls<F, EF> {
     pub fn new(alloc: Global, case: &Case<F, EF>) -> Result<Self, AllocError> {
         let width = <F::Packing as PackedValue>::WIDTH;
         let groups = case.ext.num_evals().checked_div(width).unwrap_or(0);
-        let split = split_table(alloc, &case.point, case.scale)?;
+        let split = split_table(alloc, &case.point, case.scale, true)?;
         let out = EF::ExtensionPacking::zero_vec(alloc, groups)?;
         Ok(PackedSplitCalls { split, out })
     }
@@ -121,12 +102,11 @@ fn add_to_packed<F: Field, EF: ExtensionField<F>>(
     split: &SplitEq<F, EF>,
     out: &mut [EF::ExtensionPacking],
 ) -> Result<(), AllocError> {
-    match out.len().checked_mul(<F::Packing as PackedValue>::WIDTH) {
-        Some(lanes) if has_entries(split, lanes) => {
-            split.accumulate_into_packed(alloc, out, None)
-        }
-        _ => Err(AllocError),
+    let width = <F::Packing as PackedValue>::WIDTH;
+    if !are_lanes(out.len(), width, split.num_variables()) {
+        return Err(AllocError);
     }
+    split.accumulate_into_packed(alloc, out, None)
 }
 
 impl<F: Field, EF: ExtensionField<F>> Calls for PackedSplitCalls<F, EF> {

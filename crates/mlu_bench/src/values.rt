@@ -1,8 +1,8 @@
 //! Values of a table at a point.
 
 use crate::calls::Calls;
-use crate::case::{Case, fits};
-use crate::splits::{split_table, unpacked_split_table};
+use crate::case::{Case, is_table};
+use crate::splits::split_table;
 use mlu_ring::{ExtensionField, Field, PrimeCharacteristicRing};
 use multilinear_util::point::Point;
 use multilinear_util::poly::Poly;
@@ -22,10 +22,7 @@ pub struct ValueCalls<F: Field, EF: ExtensionField<F>> {
 impl<F: Field, EF: ExtensionField<F>> ValueCalls<F, EF> {
     /// The calls with this number, over a split table that is made once.
     pub fn new(alloc: Global, case: Case<F, EF>, call: u32) -> Result<Self, AllocError> {
-        let split = match call {
-            3 => unpacked_split_table(alloc, &case.point, EF::ONE),
-            _ => split_table(alloc, &case.point, EF::ONE),
-        }?;
+        let split = split_table(alloc, &case.point, EF::ONE, call != 3)?;
         Ok(ValueCalls { case, split })
     }
 }
@@ -37,7 +34,7 @@ fn at_point<F: Field, EF: ExtensionField<F>>(
     point: &Point<EF>,
     call: u32,
 ) -> Result<EF, AllocError> {
-    if !fits(point, table) {
+    if !is_table(table.num_evals(), point.num_variables()) {
         return Err(AllocError);
     }
     match call {
@@ -63,7 +60,7 @@ fn of_extension<F: Field, EF: ExtensionField<F>>(
     table: &Poly<EF>,
     point: &Point<EF>,
 ) -> Result<EF, AllocError> {
-    if !fits(point, table) {
+    if !is_table(table.num_evals(), point.num_variables()) {
         return Err(AllocError);
     }
     table.eval_ext::<F>(alloc, point)
