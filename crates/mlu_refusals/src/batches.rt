@@ -36,12 +36,14 @@ pub fn made<R: ExtensionField<R>>(alloc: Global, call: Call) -> Result<Outcome, 
         }
         Call::EvalEqBatchInChunks => {
             let mut after = [0; 32];
-            (after[19], after[1]) = (2, 3);
+            after[19] = 2;
+            after[1] = 3;
             of_points::<R>(alloc, call, &VERTICES, &[2, 3], &[9; 32], &after)
         }
         Call::EvalEqBaseBatchInChunks => {
             let mut after = [1; 32];
-            (after[19], after[1]) = (3, 4);
+            after[19] = 3;
+            after[1] = 4;
             of_points::<R>(alloc, call, &VERTICES, &[2, 3], &[1; 32], &after)
         }
     }

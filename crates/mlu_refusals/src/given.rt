@@ -1,5 +1,5 @@
 //! The inputs of the calls.
-ghost use Rattle.std.specs.Prelude.{◌≡◌, ◌*◌, ◌^◌, ◌≤◌, length, IfOk};
+ghost use Rattle.std.specs.Prelude.{◌≡◌, ◌-◌, ◌*◌, ◌/◌, ◌^◌, ◌<◌, length, IfOk};
 ghost use Rattle.multilinear_util.specs.Split.{split_entries};
 
 use mlu_point::point::Point;
@@ -78,7 +78,7 @@ pub fn split<R: ExtensionField<R>>(
     half: Half,
     point: &Point<R>,
 ) -> Result<SplitEq<R, R>, AllocError>
-    requires { length point.now ≤ 3 }
+    requires { 2 ^ (length point.now - length point.now / 2) < 2 ^ 64 }
     ensures { IfOk result (λ split. length (split_entries R.ring split) ≡ 2 ^ length point.now) }
 {
     match half {

@@ -1,5 +1,6 @@
 //! Compressions of a polynomial by the table of a shorter point, plain, shifted and in two runs.
-ghost use Rattle.std.specs.Prelude.{◌≡◌, ◌*◌, ◌^◌, ◌≤◌, length};
+ghost use Rattle.std.specs.Prelude.{◌≡◌, ◌*◌, ◌≤◌, length};
+ghost use Rattle.multilinear_util.specs.Split.{split_entries};
 
 use crate::answers::{gives_lanes, gives_poly};
 use crate::given::Half::Scalars;
@@ -7,6 +8,8 @@ use crate::given::{counted, is_counted, point, split};
 use crate::outcome::{Outcome, judge};
 use crate::residues::Call::Table;
 use mlu_ring::{ExtensionField, Field};
+use multilinear_util::poly::Poly;
+use multilinear_util::split_eq::SplitEq;
 use std::alloc::{AllocError, Global};
 use std::test::Fail;
 
@@ -27,25 +30,26 @@ pub fn made<R: ExtensionField<R>>(alloc: Global, call: Call) -> Result<Outcome, 
 {
     match call {
         Call::PrefixToPacked | Call::PrefixShifted | Call::SuffixShifted => {
-            compressed::<R>(alloc, call, 8, &[2])
+            let split = split::<R>(alloc, Scalars, &point(alloc, &[2])?)?;
+            compressed(alloc, call, &counted(alloc, 8)?, &split)
         }
-        _ => compressed::<R>(alloc, call, 16, &[2, 2]),
+        _ => {
+            let split = split::<R>(alloc, Scalars, &point(alloc, &[2, 2])?)?;
+            compressed(alloc, call, &counted(alloc, 16)?, &split)
+        }
     }
 }
 
-/// The same, for a polynomial of so many entries and the table of the point with these coordinates.
+/// The same, for this polynomial and this table.
 fn compressed<R: ExtensionField<R>>(
     alloc: Global,
     call: Call,
-    entries: usize,
-    numbers: &[i32],
+    poly: &Poly<R>,
+    split: &SplitEq<R, R>,
 ) -> Result<Outcome, AllocError>
     requires lanes { R.Packing.WIDTH ≡ 4 }
-    requires coordinates { length numbers.now ≤ 2 }
-    requires entries { 2 ^ length numbers.now * 4 ≤ entries }
+    requires sizes { length (split_entries R.ring split.now) * 4 ≤ length poly.now }
 {
-    let poly = counted::<R>(alloc, entries)?;
-    let split = split::<R>(alloc, Scalars, &point(alloc, numbers)?)?;
     let view = poly.as_view();
     let answered = match call {
         Call::PrefixToPacked => {
@@ -81,7 +85,7 @@ fn compressed<R: ExtensionField<R>>(
             gives_poly(left, &[-39, -42, -45, -48])
         }
     };
-    Ok(judge(answered, is_counted(&poly, entries)))
+    Ok(judge(answered, is_counted(poly, poly.num_evals())))
 }
 
 #[test]

@@ -44,12 +44,12 @@ pub fn made<R: Field>(alloc: Global, call: Call) -> Result<Outcome, AllocError> 
 fn metered<R: Field>(alloc: Global, receiver: Receiver, point: &Point<R>) -> Outcome
     requires { length point.now ≡ 3 }
 {
-    let meter = &mut Counter::new();
+    let mut meter = Counter::new();
     let answer = match receiver {
-        Owner => point.equality_weights_metered(alloc, BitOrder::Lsb, 1, meter),
+        Owner => point.equality_weights_metered(alloc, BitOrder::Lsb, 1, &mut meter),
         View => point
             .as_view()
-            .equality_weights_metered(alloc, BitOrder::Lsb, 1, meter),
+            .equality_weights_metered(alloc, BitOrder::Lsb, 1, &mut meter),
     };
     let products = if answer.is_ok() { 7 } else { 0 };
     let counted = meter.made() == products && meter.groups() == 0;
@@ -66,12 +66,13 @@ fn fill_in_chunks<R: Field>(
     requires { length point.now ≡ 3 }
 {
     let mut out: Vec<R> = elements(alloc, &[9; 8])?;
-    let (places, order, meter) = (out.as_mut_slice(), BitOrder::Msb, &mut Counter::new());
+    let mut meter = Counter::new();
+    let (places, order) = (out.as_mut_slice(), BitOrder::Msb);
     let done = match receiver {
-        Owner => point.fill_equality_table_in_chunks(alloc, places, order, R::TWO, 1, meter),
+        Owner => point.fill_equality_table_in_chunks(alloc, places, order, R::TWO, 1, &mut meter),
         View => point
             .as_view()
-            .fill_equality_table_in_chunks(alloc, places, order, R::TWO, 1, meter),
+            .fill_equality_table_in_chunks(alloc, places, order, R::TWO, 1, &mut meter),
     };
     let products = if done.is_ok() { 7 } else { 0 };
     if meter.made() != products {
