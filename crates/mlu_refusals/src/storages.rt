@@ -58,23 +58,24 @@ fn of_storage<R: ExtensionField<R>>(
             Ok(copy) => Ok(copy.num_variables() == point.num_variables()),
             Err(refused) => Err(refused),
         },
-        Call::Unpack => return unpack(alloc, storage),
+        Call::Unpack => return Ok(unpack(alloc, storage)),
     };
     Ok(judge(answered, true))
 }
 
 /// A refused unpacking hands the packed table back.
-fn unpack<R: ExtensionField<R>>(
-    alloc: Global,
-    storage: PolyMaybePacked<R, R>,
-) -> Result<Outcome, AllocError> {
+fn unpack<R: ExtensionField<R>>(alloc: Global, storage: PolyMaybePacked<R, R>) -> Outcome {
     match storage.unpack(alloc) {
-        Ok(poly) => Ok(judge(Ok(is_counted(&poly, 8)), true)),
-        Err((PolyMaybePacked::Packed(packed), refused)) => {
-            let kept = has_lanes::<R>(packed.as_slice(), &[1, 2, 3, 4, 5, 6, 7, 8]);
-            Ok(judge(Err(refused), kept))
+        Ok(poly) => judge(Ok(is_counted(&poly, 8)), true),
+        Err((table, refused)) => {
+            let kept = match &table {
+                PolyMaybePacked::Packed(packed) => {
+                    has_lanes::<R>(packed.as_slice(), &[1, 2, 3, 4, 5, 6, 7, 8])
+                }
+                PolyMaybePacked::Scalar(_) => false,
+            };
+            judge(Err(refused), kept)
         }
-        Err(_) => Ok(Outcome::Wrong),
     }
 }
 
