@@ -1,13 +1,12 @@
-//! Compressions of a polynomial at the point (2).
-ghost use Rattle.std.specs.Prelude.{◌≡◌, length};
+//! Compressions of a polynomial at the point (2), owned and borrowed.
+ghost use Rattle.std.specs.Prelude.{◌≡◌};
 
-use crate::given::{Receiver, is_poly, poly, short_point};
+use crate::answers::{gives_lanes, gives_poly};
+use crate::given::Receiver::{self, Owner, View};
+use crate::given::{counted, is_counted, point};
 use crate::outcome::{Outcome, judge};
-use crate::residues::{Call as AnyCall, tried};
-use mlu_point::point::Point;
-use mlu_ring::{ExtensionField, Field, PackedFieldExtension, PrimeCharacteristicRing};
-use mlu_test_support::numbers::{are, element};
-use multilinear_util::poly::Poly;
+use crate::residues::Call::Compression;
+use mlu_ring::{ExtensionField, Field, PrimeCharacteristicRing};
 use std::alloc::{AllocError, Global};
 use std::test::Fail;
 
@@ -23,128 +22,51 @@ pub enum Call {
 pub fn made<R: ExtensionField<R>>(alloc: Global, call: Call) -> Result<Outcome, AllocError>
     requires { R.Packing.WIDTH ≡ 4 }
 {
-    let point = short_point::<R>(alloc)?;
-    let poly = poly::<R>(alloc)?;
+    let point = &point::<R>(alloc, &[2])?;
+    let poly = counted::<R>(alloc, 8)?;
+    let view = poly.as_view();
+    let (scale, prefix, suffix) = (R::ONE, [9, 10, 11, 12], [3, 5, 7, 9]);
     let answered = match call {
-        Call::Prefix(receiver) => prefix(alloc, receiver, &poly, &point),
-        Call::PrefixToPacked(receiver) => prefix_to_packed(alloc, receiver, &poly, &point),
-        Call::Suffix(receiver) => suffix(alloc, receiver, &poly, &point),
-    };
-    Ok(judge(answered, is_poly(poly.as_slice())))
-}
-
-fn prefix<R: ExtensionField<R>>(
-    alloc: Global,
-    receiver: Receiver,
-    poly: &Poly<R>,
-    point: &Point<R>,
-) -> Result<bool, AllocError>
-    requires poly { length poly.now ≡ 8 }
-    requires point { length point.now ≡ 1 }
-{
-    let left = match receiver {
-        Receiver::Owner => poly.compress_prefix(alloc, point, R::ONE),
-        Receiver::View => poly.as_view().compress_prefix(alloc, point, R::ONE),
-    }?;
-    Ok(are(left.as_slice(), &[9, 10, 11, 12]))
-}
-
-fn prefix_to_packed<R: ExtensionField<R>>(
-    alloc: Global,
-    receiver: Receiver,
-    poly: &Poly<R>,
-    point: &Point<R>,
-) -> Result<bool, AllocError>
-    requires lanes { R.Packing.WIDTH ≡ 4 }
-    requires poly { length poly.now ≡ 8 }
-    requires point { length point.now ≡ 1 }
-{
-    let left = match receiver {
-        Receiver::Owner => poly.compress_prefix_to_packed(alloc, point, R::ONE),
-        Receiver::View => poly
-            .as_view()
-            .compress_prefix_to_packed(alloc, point, R::ONE),
-    }?;
-    Ok(has_lanes::<R>(left.as_slice(), &[9, 10, 11, 12]))
-}
-
-/// Whether the lanes are the images of the numbers.
-pub fn has_lanes<R: ExtensionField<R>>(packed: &[R::ExtensionPacking], numbers: &[i32]) -> bool {
-    let mut lanes = R::ExtensionPacking::to_ext_iter(packed);
-    for number in numbers {
-        if lanes.next() != Some(element(*number)) {
-            return false;
+        Call::Prefix(Owner) => gives_poly(poly.compress_prefix(alloc, point, scale), &prefix),
+        Call::Prefix(View) => gives_poly(view.compress_prefix(alloc, point, scale), &prefix),
+        Call::PrefixToPacked(Owner) => {
+            gives_lanes::<R>(poly.compress_prefix_to_packed(alloc, point, scale), &prefix)
         }
-    }
-    lanes.next().is_none()
-}
-
-fn suffix<R: ExtensionField<R>>(
-    alloc: Global,
-    receiver: Receiver,
-    poly: &Poly<R>,
-    point: &Point<R>,
-) -> Result<bool, AllocError>
-    requires poly { length poly.now ≡ 8 }
-    requires point { length point.now ≡ 1 }
-{
-    let left = match receiver {
-        Receiver::Owner => poly.compress_suffix(alloc, point, R::ONE),
-        Receiver::View => poly.as_view().compress_suffix(alloc, point, R::ONE),
-    }?;
-    Ok(are(left.as_slice(), &[3, 5, 7, 9]))
+        Call::PrefixToPacked(View) => {
+            gives_lanes::<R>(view.compress_prefix_to_packed(alloc, point, scale), &prefix)
+        }
+        Call::Suffix(Owner) => gives_poly(poly.compress_suffix(alloc, point, scale), &suffix),
+        Call::Suffix(View) => gives_poly(view.compress_suffix(alloc, point, scale), &suffix),
+    };
+    Ok(judge(answered, is_counted(&poly, 8)))
 }
 
 #[test]
 fn prefix_compressed_to_packed(rt: HostRuntime) -> Result<(), Fail> {
-    tried(
-        &rt,
-        "Poly::compress_prefix_to_packed",
-        AnyCall::Compression(Call::PrefixToPacked(Receiver::Owner)),
-    )
+    Compression(Call::PrefixToPacked(Owner)).tried(&rt, "Poly::compress_prefix_to_packed")
 }
 
 #[test]
 fn prefix_compressed_at_a_point(rt: HostRuntime) -> Result<(), Fail> {
-    tried(
-        &rt,
-        "Poly::compress_prefix",
-        AnyCall::Compression(Call::Prefix(Receiver::Owner)),
-    )
+    Compression(Call::Prefix(Owner)).tried(&rt, "Poly::compress_prefix")
 }
 
 #[test]
 fn suffix_compressed_at_a_point(rt: HostRuntime) -> Result<(), Fail> {
-    tried(
-        &rt,
-        "Poly::compress_suffix",
-        AnyCall::Compression(Call::Suffix(Receiver::Owner)),
-    )
+    Compression(Call::Suffix(Owner)).tried(&rt, "Poly::compress_suffix")
 }
 
 #[test]
 fn prefix_of_a_view_compressed_to_packed(rt: HostRuntime) -> Result<(), Fail> {
-    tried(
-        &rt,
-        "PolyView::compress_prefix_to_packed",
-        AnyCall::Compression(Call::PrefixToPacked(Receiver::View)),
-    )
+    Compression(Call::PrefixToPacked(View)).tried(&rt, "PolyView::compress_prefix_to_packed")
 }
 
 #[test]
 fn prefix_of_a_view_compressed(rt: HostRuntime) -> Result<(), Fail> {
-    tried(
-        &rt,
-        "PolyView::compress_prefix",
-        AnyCall::Compression(Call::Prefix(Receiver::View)),
-    )
+    Compression(Call::Prefix(View)).tried(&rt, "PolyView::compress_prefix")
 }
 
 #[test]
 fn suffix_of_a_view_compressed(rt: HostRuntime) -> Result<(), Fail> {
-    tried(
-        &rt,
-        "PolyView::compress_suffix",
-        AnyCall::Compression(Call::Suffix(Receiver::View)),
-    )
+    Compression(Call::Suffix(View)).tried(&rt, "PolyView::compress_suffix")
 }

@@ -1,10 +1,12 @@
 //! The inputs of the calls.
-ghost use Rattle.std.specs.Prelude.{◌≡◌, ◌*◌, ◌^◌, ◌<◌, length, IfOk};
+ghost use Rattle.std.specs.Prelude.{◌≡◌, ◌-◌, ◌*◌, ◌/◌, ◌^◌, ◌<◌, length, IfOk};
+ghost use Rattle.multilinear_util.specs.Split.{split_entries};
 
 use mlu_point::point::Point;
-use mlu_ring::{Additive, ExtensionField, Field, PackedValue};
+use mlu_ring::{Additive, ExtensionField, Field, PackedValue, PrimeCharacteristicRing};
 use mlu_test_support::numbers::{are, elements};
 use multilinear_util::poly::Poly;
+use multilinear_util::split_eq::SplitEq;
 use std::alloc::{AllocError, Global};
 
 /// What a call is made on.
@@ -16,40 +18,39 @@ pub enum Receiver {
     View,
 }
 
-/// The point (2, 3, 5).
-pub fn point<R: Additive>(alloc: Global) -> Result<Point<R>, AllocError>
-    ensures three { IfOk result (λ point. length point ≡ 3) }
-    ensures fits { IfOk result (λ point. 2 ^ length point < 2 ^ 64) }
+/// The point with these coordinates.
+pub fn point<R: Additive>(alloc: Global, numbers: &[i32]) -> Result<Point<R>, AllocError>
+    ensures { IfOk result (λ point. length point ≡ length numbers.now) }
 {
-    Ok(Point::new(elements(alloc, &[2, 3, 5])?))
+    Ok(Point::new(elements(alloc, numbers)?))
 }
 
-/// Whether this is the point (2, 3, 5).
-pub fn is_point<R: Additive>(point: &Point<R>) -> bool {
-    are(point.as_slice(), &[2, 3, 5])
-}
-
-/// The point of one coordinate, 2.
-pub fn short_point<R: Additive>(alloc: Global) -> Result<Point<R>, AllocError>
-    ensures { IfOk result (λ point. length point ≡ 1) }
+/// The polynomial with the values 1, 2, .., of so many entries.
+pub fn counted<R: Additive>(alloc: Global, entries: usize) -> Result<Poly<R>, AllocError>
+    ensures { IfOk result (λ poly. length poly ≡ entries) }
 {
-    Ok(Point::new(elements(alloc, &[2])?))
-}
-
-/// The polynomial with the values 1, 2, .., 8.
-pub fn poly<R: Additive>(alloc: Global) -> Result<Poly<R>, AllocError>
-    ensures { IfOk result (λ poly. length poly ≡ 8) }
-{
-    let evals: Vec<R> = elements(alloc, &[1, 2, 3, 4, 5, 6, 7, 8])?;
-    if !evals.len().is_power_of_two() {
+    let mut evals = Vec::with_capacity(alloc, entries)?;
+    let mut value = R::ZERO;
+    for _ in 0..entries {
+        value = value + R::ONE;
+        evals.push(value)?;
+    }
+    if evals.len() != entries || !entries.is_power_of_two() {
         return Err(AllocError);
     }
     Ok(Poly::new(evals))
 }
 
-/// Whether these are the values 1, 2, .., 8.
-pub fn is_poly<R: Additive>(values: &[R]) -> bool {
-    are(values, &[1, 2, 3, 4, 5, 6, 7, 8])
+/// Whether these are the values 1, 2, .., of so many entries.
+pub fn is_counted<R: Additive>(poly: &Poly<R>, entries: usize) -> bool {
+    let mut number = R::ZERO;
+    for value in poly.as_slice() {
+        number = number + R::ONE;
+        if *value != number {
+            return false;
+        }
+    }
+    poly.num_evals() == entries
 }
 
 /// The polynomial with the values 1, 2, .., 8, in lanes.
@@ -57,9 +58,39 @@ pub fn packed<R: ExtensionField<R>>(alloc: Global) -> Result<Poly<R::ExtensionPa
     requires { R.Packing.WIDTH ≡ 4 }
     ensures { IfOk result (λ poly. length poly * R.Packing.WIDTH ≡ 8) }
 {
-    let packed = poly::<R>(alloc)?.pack::<R, R>(alloc)?;
+    let packed = counted::<R>(alloc, 8)?.pack::<R, R>(alloc)?;
     if packed.num_evals() != 2 {
         return Err(AllocError);
     }
     Ok(packed)
+}
+
+/// What the second half of a split table stores.
+#[derive(Clone, Copy)]
+pub enum Half {
+    Scalars,
+    Lanes,
+}
+
+/// The table of the point.
+pub fn split<R: ExtensionField<R>>(
+    alloc: Global,
+    half: Half,
+    point: &Point<R>,
+) -> Result<SplitEq<R, R>, AllocError>
+    requires { 2 ^ (length point.now - length point.now / 2) < 2 ^ 64 }
+    ensures { IfOk result (λ split. length (split_entries R.ring split) ≡ 2 ^ length point.now) }
+{
+    match half {
+        Half::Scalars => SplitEq::new_unpacked(alloc, point, R::ONE),
+        Half::Lanes => SplitEq::new_packed(alloc, point, R::ONE),
+    }
+}
+
+/// Whether the table has the weights of the point (2, 3, 5), which are added to `zeros`.
+pub fn has_weights<R: ExtensionField<R>>(split: &SplitEq<R, R>, zeros: &mut [R]) -> bool
+    requires { length zeros.old ≡ length (split_entries R.ring split.now) }
+{
+    split.accumulate_into(zeros, None);
+    are(zeros, &[-8, 10, 12, -15, 16, -20, -24, 30])
 }

@@ -5,17 +5,21 @@
 //! answer too. A set-up that is refused ends the test quietly. `check.sh` runs the tests with the
 //! first, the second, .. allocation of each failing, until none is refused any more.
 //!
-//! A call is a function over any rings, which gives whether the answer is right and fails only where
-//! the call is refused; so all that it needs is made before it. The module `residues` alone
-//! names rings, since each function that does takes long to prove.
+//! Calls stand by their subject, in functions over any rings: `made` builds the inputs, and fails
+//! only where these are refused. Then one arm makes the call, and `answers` says whether it is right.
+//! The module `residues` alone names rings, since each function that does takes long to prove.
 #![tactic(auto)]
 
+#[cfg(test)]
+mod answers;
 #[cfg(test)]
 mod batches;
 #[cfg(test)]
 mod compressions;
 #[cfg(test)]
 mod evaluations;
+#[cfg(test)]
+mod folds;
 #[cfg(test)]
 mod given;
 #[cfg(test)]
@@ -29,14 +33,16 @@ mod polys;
 #[cfg(test)]
 mod residues;
 #[cfg(test)]
-mod runs;
-#[cfg(test)]
 mod splits;
+#[cfg(test)]
+mod storages;
 #[cfg(test)]
 mod successors;
 #[cfg(test)]
 mod sumchecks;
 #[cfg(test)]
+mod tables;
+#[cfg(test)]
 mod unfailing;
 #[cfg(test)]
-mod views;
+mod weights;

@@ -38,13 +38,3 @@ pub fn written<R: Additive>(
         Err(refused) => judge(Err(refused), are(out, before)),
     }
 }
-
-/// Whether the call or its set-up was refused.
-pub fn is_refused(made: &Result<Outcome, AllocError>) -> bool {
-    matches!(made, Ok(Outcome::Refused) | Err(_))
-}
-
-/// Whether a call that does not fail was served. A set-up may have been refused.
-pub fn is_served(made: Result<Outcome, AllocError>) -> bool {
-    matches!(made, Ok(Outcome::Served) | Err(_))
-}

@@ -1,15 +1,15 @@
-//! Split tables and the calls through them.
-ghost use Rattle.std.specs.Prelude.{◌≡◌, ◌*◌, length, IfOk};
+//! Split tables of the point (2, 3, 5) and the calls through them.
+ghost use Rattle.std.specs.Prelude.{◌≡◌, length};
 ghost use Rattle.multilinear_util.specs.Split.{split_entries};
-ghost use Rattle.multilinear_util.specs.Views.{entries};
 
-use crate::given::{is_poly, packed, point, poly, short_point};
+use crate::answers::{gives, gives_poly, has_lanes};
+use crate::given::Half::{self, Lanes, Scalars};
+use crate::given::{counted, has_weights, is_counted, packed, point, split};
 use crate::outcome::{Outcome, judge};
-use crate::residues::{Call as AnyCall, tried};
-use mlu_point::point::Point;
-use mlu_ring::{ExtensionField, Field, MapFrom, PackedFieldExtension, PrimeCharacteristicRing};
-use mlu_test_support::numbers::{are, element, elements};
-use multilinear_util::poly::{Poly, PolyView};
+use crate::residues::Call::Split;
+use mlu_ring::{Additive, ExtensionField, Field, MapFrom, PrimeCharacteristicRing};
+use mlu_test_support::numbers::{element, elements};
+use multilinear_util::poly::Poly;
 use multilinear_util::split_eq::SplitEq;
 use std::alloc::{AllocError, Global};
 use std::test::Fail;
@@ -17,383 +17,145 @@ use std::test::Fail;
 /// The calls that this file makes.
 #[derive(Clone, Copy)]
 pub enum Call {
-    NewUnpacked,
-    NewPacked,
-    PackedTryClone,
-    PackedCloneHalf,
-    AccumulateIntoPacked,
-    CompressPrefixToPacked,
-    EvalPacked,
-    Beside(PolyCall),
-}
-
-/// A call of a table that stands beside the polynomial with the values 1, 2, .., 8.
-#[derive(Clone, Copy)]
-pub enum PolyCall {
+    New,
     TryClone,
     CloneHalf,
+    ToField,
     Materialize,
+    AccumulateIntoPacked,
+    EvalPacked,
     CompressPrefix,
     CompressSuffix,
 }
 
 /// What becomes of the call. Fails where its inputs are refused.
-pub fn made<R: ExtensionField<R>>(alloc: Global, call: Call) -> Result<Outcome, AllocError>
+pub fn made<R: ExtensionField<R> + MapFrom<R>>(
+    alloc: Global,
+    half: Half,
+    call: Call,
+) -> Result<Outcome, AllocError>
     requires { R.Packing.WIDTH ≡ 4 }
 {
-    let point = point::<R>(alloc)?;
-    match call {
-        Call::NewUnpacked => Ok(judge(new_unpacked::<R>(alloc, &point), true)),
-        Call::NewPacked => Ok(judge(new_packed::<R>(alloc, &point), true)),
-        Call::PackedTryClone => packed_copy::<R>(alloc, &point, false),
-        Call::PackedCloneHalf => packed_copy::<R>(alloc, &point, true),
-        Call::AccumulateIntoPacked => accumulate_into_packed::<R>(alloc, &point),
-        Call::CompressPrefixToPacked => prefix_to_packed::<R>(alloc),
-        Call::EvalPacked => eval_packed::<R>(alloc, &point),
-        Call::Beside(call) => beside_a_poly::<R>(alloc, call, &point),
-    }
+    let point = point::<R>(alloc, &[2, 3, 5])?;
+    let table = split::<R>(alloc, half, &point)?;
+    let (poly, packed) = (counted::<R>(alloc, 8)?, packed::<R>(alloc)?);
+    let mut zeros = R::zero_vec(alloc, 8)?;
+    let answered = match call {
+        Call::New => gives_table(split(alloc, half, &point)),
+        Call::TryClone => gives_table(table.try_clone(alloc)),
+        Call::CloneHalf => clone_half(alloc, &table),
+        Call::ToField => gives_table(table.to_field::<R>(alloc)),
+        Call::Materialize => {
+            gives_poly(
+                table.materialize(alloc),
+                &[-8, 10, 12, -15, 16, -20, -24, 30],
+            )
+        }
+        Call::AccumulateIntoPacked => return accumulate_into_packed(alloc, &table),
+        Call::EvalPacked => gives(table.eval_packed(alloc, packed.as_view()), 20),
+        Call::CompressPrefix => gives_poly(table.compress_prefix(alloc, poly.as_view()), &[20]),
+        Call::CompressSuffix => gives_poly(table.compress_suffix(alloc, poly.as_view()), &[20]),
+    };
+    let kept = has_weights(&table, zeros.as_mut_slice()) && is_counted(&poly, 8);
+    Ok(judge(answered, kept))
 }
 
-fn new_unpacked<R: ExtensionField<R>>(alloc: Global, point: &Point<R>) -> Result<bool, AllocError>
-    requires { length point.now ≡ 3 }
-{
-    Ok(SplitEq::<R, R>::new_unpacked(alloc, point, R::ONE)?.num_variables() == 3)
+/// Whether the call gives a table of three variables that ends with the weight 30.
+fn gives_table<R: ExtensionField<R>>(
+    answer: Result<SplitEq<R, R>, AllocError>,
+) -> Result<bool, AllocError> {
+    let table = answer?;
+    Ok(table.num_variables() == 3 && table.last_scalar() == element(30))
 }
 
-fn new_packed<R: ExtensionField<R>>(alloc: Global, point: &Point<R>) -> Result<bool, AllocError>
-    requires { length point.now ≡ 3 }
-{
-    Ok(SplitEq::<R, R>::new_packed(alloc, point, R::ONE)?.num_variables() == 3)
-}
-
-/// The table of a point of three coordinates, with scalars in both halves.
-pub fn split<R: ExtensionField<R>>(
+fn clone_half<R: ExtensionField<R>>(
     alloc: Global,
-    point: &Point<R>,
-) -> Result<SplitEq<R, R>, AllocError>
-    requires { length point.now ≡ 3 }
-    ensures { IfOk result (λ split. length (split_entries R.ring split) ≡ 8) }
-{
-    SplitEq::new_unpacked(alloc, point, R::ONE)
-}
-
-/// The same table, with packed weights in its second half.
-fn packed_split<R: ExtensionField<R>>(
-    alloc: Global,
-    point: &Point<R>,
-) -> Result<SplitEq<R, R>, AllocError>
-    requires { length point.now ≡ 3 }
-    ensures { IfOk result (λ split. length (split_entries R.ring split) ≡ 8) }
-{
-    SplitEq::new_packed(alloc, point, R::ONE)
-}
-
-/// Whether the table has the weights of the point (2, 3, 5), which are added to `zeros`.
-pub fn has_weights<R: ExtensionField<R>>(split: &SplitEq<R, R>, zeros: &mut [R]) -> bool
-    requires { length zeros.old ≡ length (split_entries R.ring split.now) }
-{
-    split.accumulate_into(zeros, None);
-    are(zeros, &[-8, 10, 12, -15, 16, -20, -24, 30])
+    table: &SplitEq<R, R>,
+) -> Result<bool, AllocError> {
+    Ok(table.eq1().try_clone(alloc)?.last_scalar() == element(15))
 }
 
 /// A refused accumulation leaves its output as it was.
 fn accumulate_into_packed<R: ExtensionField<R>>(
     alloc: Global,
-    point: &Point<R>,
+    table: &SplitEq<R, R>,
 ) -> Result<Outcome, AllocError>
     requires lanes { R.Packing.WIDTH ≡ 4 }
-    requires point { length point.now ≡ 3 }
+    requires table { length (split_entries R.ring table.now) ≡ 8 }
 {
-    let split = split::<R>(alloc, point)?;
     let mut out: Vec<R::ExtensionPacking> = elements(alloc, &[1, 1])?;
-    let done = split.accumulate_into_packed(alloc, out.as_mut_slice(), None);
+    let done = table.accumulate_into_packed(alloc, out.as_mut_slice(), None);
     let out = out.as_slice();
     Ok(match done {
-        Ok(()) => {
-            let right = has_lanes::<R>(out, &[-7, 11, 13, -14, 17, -19, -23, 31]);
-            judge(Ok(true), right)
-        }
+        Ok(()) => judge(
+            Ok(has_lanes::<R>(out, &[-7, 11, 13, -14, 17, -19, -23, 31])),
+            true,
+        ),
         Err(refused) => judge(Err(refused), has_lanes::<R>(out, &[1; 8])),
     })
 }
 
-/// Whether these are the lanes, joined in order.
-fn has_lanes<R: ExtensionField<R>>(packed: &[R::ExtensionPacking], numbers: &[i32]) -> bool {
-    let mut lanes = R::ExtensionPacking::to_ext_iter(packed);
-    for number in numbers {
-        if lanes.next() != Some(element(*number)) {
-            return false;
-        }
-    }
-    lanes.next().is_none()
-}
-
-fn value_of_lanes<R: ExtensionField<R>>(
-    alloc: Global,
-    split: &SplitEq<R, R>,
-    packed: &Poly<R::ExtensionPacking>,
-) -> Result<bool, AllocError>
-    requires { length packed.now * R.Packing.WIDTH ≡ length (split_entries R.ring split.now) }
-{
-    Ok(split.eval_packed(alloc, packed.as_view())? == element(20))
-}
-
-fn eval_packed<R: ExtensionField<R>>(alloc: Global, point: &Point<R>) -> Result<Outcome, AllocError>
-    requires lanes { R.Packing.WIDTH ≡ 4 }
-    requires point { length point.now ≡ 3 }
-{
-    let packed = packed::<R>(alloc)?;
-    let mut zeros = R::zero_vec(alloc, 8)?;
-    let split = split::<R>(alloc, point)?;
-    let answered = value_of_lanes::<R>(alloc, &split, &packed);
-    Ok(judge(answered, has_weights(&split, zeros.as_mut_slice())))
-}
-
-/// What becomes of the call, beside the polynomial with the values 1, 2, .., 8.
-fn beside_a_poly<R: ExtensionField<R>>(
-    alloc: Global,
-    call: PolyCall,
-    point: &Point<R>,
-) -> Result<Outcome, AllocError>
-    requires { length point.now ≡ 3 }
-{
-    let poly = poly::<R>(alloc)?;
-    let mut zeros = R::zero_vec(alloc, 8)?;
-    let split = split::<R>(alloc, point)?;
-    let answered = match call {
-        PolyCall::TryClone => try_clone(alloc, &split),
-        PolyCall::CloneHalf => clone_half(alloc, &split),
-        PolyCall::Materialize => materialize(alloc, &split),
-        PolyCall::CompressPrefix => compress_prefix(alloc, &split, poly.as_view()),
-        PolyCall::CompressSuffix => compress_suffix(alloc, &split, poly.as_view()),
-    };
-    let kept = has_weights(&split, zeros.as_mut_slice()) && is_poly(poly.as_slice());
-    Ok(judge(answered, kept))
-}
-
-fn try_clone<R: ExtensionField<R>>(
-    alloc: Global,
-    split: &SplitEq<R, R>,
-) -> Result<bool, AllocError> {
-    Ok(split.try_clone(alloc)?.num_variables() == 3)
-}
-
-fn clone_half<R: ExtensionField<R>>(
-    alloc: Global,
-    split: &SplitEq<R, R>,
-) -> Result<bool, AllocError> {
-    Ok(split.eq1().try_clone(alloc)?.last_scalar() == element(15))
-}
-
-/// A copy of a table with packed weights, or of its second half.
-fn packed_copy<R: ExtensionField<R>>(
-    alloc: Global,
-    point: &Point<R>,
-    is_half: bool,
-) -> Result<Outcome, AllocError>
-    requires { length point.now ≡ 3 }
-{
-    let mut zeros = R::zero_vec(alloc, 8)?;
-    let split = packed_split::<R>(alloc, point)?;
-    let answered = if is_half {
-        clone_half(alloc, &split)
-    } else {
-        try_clone(alloc, &split)
-    };
-    Ok(judge(answered, has_weights(&split, zeros.as_mut_slice())))
-}
-
-/// A conversion of scalars or of packed weights, with its table.
-pub fn converted<R: ExtensionField<R> + MapFrom<R>>(
-    alloc: Global,
-    is_packed: bool,
-) -> Result<Outcome, AllocError> {
-    let point = point::<R>(alloc)?;
-    let mut zeros = R::zero_vec(alloc, 8)?;
-    let split = if is_packed {
-        packed_split::<R>(alloc, &point)?
-    } else {
-        split::<R>(alloc, &point)?
-    };
-    let answered = to_field::<R>(alloc, &split);
-    Ok(judge(answered, has_weights(&split, zeros.as_mut_slice())))
-}
-
-fn to_field<R: ExtensionField<R> + MapFrom<R>>(
-    alloc: Global,
-    split: &SplitEq<R, R>,
-) -> Result<bool, AllocError> {
-    Ok(split.to_field::<R>(alloc)?.last_scalar() == element(30))
-}
-
-fn materialize<R: ExtensionField<R>>(
-    alloc: Global,
-    split: &SplitEq<R, R>,
-) -> Result<bool, AllocError>
-    requires { length (split_entries R.ring split.now) ≡ 8 }
-{
-    let table = split.materialize(alloc)?;
-    Ok(are(table.as_slice(), &[-8, 10, 12, -15, 16, -20, -24, 30]))
-}
-
-fn compress_prefix<R: ExtensionField<R>>(
-    alloc: Global,
-    split: &SplitEq<R, R>,
-    poly: PolyView<'_, R>,
-) -> Result<bool, AllocError>
-    requires { length (split_entries R.ring split.now) ≡ length (entries poly) }
-{
-    Ok(are(split.compress_prefix(alloc, poly)?.as_slice(), &[20]))
-}
-
-fn prefix_to_packed<R: ExtensionField<R>>(alloc: Global) -> Result<Outcome, AllocError>
-    requires { R.Packing.WIDTH ≡ 4 }
-{
-    let poly = poly::<R>(alloc)?;
-    let point = short_point::<R>(alloc)?;
-    let split = SplitEq::<R, R>::new_unpacked(alloc, &point, R::ONE)?;
-    let answered = compress_prefix_to_packed::<R>(alloc, &split, poly.as_view());
-    Ok(judge(answered, is_poly(poly.as_slice())))
-}
-
-fn compress_prefix_to_packed<R: ExtensionField<R>>(
-    alloc: Global,
-    split: &SplitEq<R, R>,
-    poly: PolyView<'_, R>,
-) -> Result<bool, AllocError>
-    requires lanes { R.Packing.WIDTH ≡ 4 }
-    requires split { length (split_entries R.ring split.now) ≡ 2 }
-    requires poly { length (entries poly) ≡ 8 }
-{
-    let left = split.compress_prefix_to_packed(alloc, poly)?;
-    let last = R::ExtensionPacking::to_ext_iter(left.as_slice()).last();
-    Ok(last == Some(element(12)))
-}
-
-fn compress_suffix<R: ExtensionField<R>>(
-    alloc: Global,
-    split: &SplitEq<R, R>,
-    poly: PolyView<'_, R>,
-) -> Result<bool, AllocError>
-    requires { length (split_entries R.ring split.now) ≡ length (entries poly) }
-{
-    Ok(are(split.compress_suffix(alloc, poly)?.as_slice(), &[20]))
-}
-
 #[test]
 fn split_table(rt: HostRuntime) -> Result<(), Fail> {
-    tried(
-        &rt,
-        "SplitEq::new_unpacked",
-        AnyCall::Split(Call::NewUnpacked),
-    )
+    Split(Scalars, Call::New).tried(&rt, "SplitEq::new_unpacked")
 }
 
 #[test]
 fn packed_split_table(rt: HostRuntime) -> Result<(), Fail> {
-    tried(&rt, "SplitEq::new_packed", AnyCall::Split(Call::NewPacked))
+    Split(Lanes, Call::New).tried(&rt, "SplitEq::new_packed")
 }
 
 #[test]
 fn copied_split(rt: HostRuntime) -> Result<(), Fail> {
-    tried(
-        &rt,
-        "SplitEq::try_clone",
-        AnyCall::Split(Call::Beside(PolyCall::TryClone)),
-    )
+    Split(Scalars, Call::TryClone).tried(&rt, "SplitEq::try_clone")
 }
 
 #[test]
 fn copied_half(rt: HostRuntime) -> Result<(), Fail> {
-    tried(
-        &rt,
-        "EqMaybePacked::try_clone",
-        AnyCall::Split(Call::Beside(PolyCall::CloneHalf)),
-    )
+    Split(Scalars, Call::CloneHalf).tried(&rt, "EqMaybePacked::try_clone")
 }
 
 #[test]
 fn copied_lanes(rt: HostRuntime) -> Result<(), Fail> {
-    tried(
-        &rt,
-        "SplitEq::try_clone of packed weights",
-        AnyCall::Split(Call::PackedTryClone),
-    )
+    Split(Lanes, Call::TryClone).tried(&rt, "SplitEq::try_clone of packed weights")
 }
 
 #[test]
 fn copied_half_of_lanes(rt: HostRuntime) -> Result<(), Fail> {
-    tried(
-        &rt,
-        "EqMaybePacked::try_clone of packed weights",
-        AnyCall::Split(Call::PackedCloneHalf),
-    )
+    Split(Lanes, Call::CloneHalf).tried(&rt, "EqMaybePacked::try_clone of packed weights")
 }
 
 #[test]
 fn converted_split(rt: HostRuntime) -> Result<(), Fail> {
-    tried(&rt, "SplitEq::to_field", AnyCall::ToField)
+    Split(Scalars, Call::ToField).tried(&rt, "SplitEq::to_field")
 }
 
 #[test]
 fn converted_lanes(rt: HostRuntime) -> Result<(), Fail> {
-    tried(
-        &rt,
-        "SplitEq::to_field of packed weights",
-        AnyCall::PackedToField,
-    )
+    Split(Lanes, Call::ToField).tried(&rt, "SplitEq::to_field of packed weights")
 }
 
 #[test]
 fn whole_table(rt: HostRuntime) -> Result<(), Fail> {
-    tried(
-        &rt,
-        "SplitEq::materialize",
-        AnyCall::Split(Call::Beside(PolyCall::Materialize)),
-    )
+    Split(Scalars, Call::Materialize).tried(&rt, "SplitEq::materialize")
 }
 
 #[test]
 fn accumulated_lanes(rt: HostRuntime) -> Result<(), Fail> {
-    tried(
-        &rt,
-        "SplitEq::accumulate_into_packed",
-        AnyCall::Split(Call::AccumulateIntoPacked),
-    )
+    Split(Scalars, Call::AccumulateIntoPacked).tried(&rt, "SplitEq::accumulate_into_packed")
 }
 
 #[test]
 fn value_of_packed_entries(rt: HostRuntime) -> Result<(), Fail> {
-    tried(
-        &rt,
-        "SplitEq::eval_packed",
-        AnyCall::Split(Call::EvalPacked),
-    )
+    Split(Scalars, Call::EvalPacked).tried(&rt, "SplitEq::eval_packed")
 }
 
 #[test]
 fn prefix_compressed(rt: HostRuntime) -> Result<(), Fail> {
-    tried(
-        &rt,
-        "SplitEq::compress_prefix",
-        AnyCall::Split(Call::Beside(PolyCall::CompressPrefix)),
-    )
-}
-
-#[test]
-fn prefix_compressed_to_lanes(rt: HostRuntime) -> Result<(), Fail> {
-    tried(
-        &rt,
-        "SplitEq::compress_prefix_to_packed",
-        AnyCall::Split(Call::CompressPrefixToPacked),
-    )
+    Split(Scalars, Call::CompressPrefix).tried(&rt, "SplitEq::compress_prefix")
 }
 
 #[test]
 fn suffix_compressed(rt: HostRuntime) -> Result<(), Fail> {
-    tried(
-        &rt,
-        "SplitEq::compress_suffix",
-        AnyCall::Split(Call::Beside(PolyCall::CompressSuffix)),
-    )
+    Split(Scalars, Call::CompressSuffix).tried(&rt, "SplitEq::compress_suffix")
 }

@@ -3,13 +3,13 @@
 ghost use Rattle.std.specs.Prelude.{◌≡◌, length};
 ghost use Rattle.multilinear_util.specs.Split.{split_entries};
 
-use crate::given::{is_point, is_poly, point, poly};
+use crate::given::Half::Scalars;
+use crate::given::{counted, has_weights, is_counted, point, split};
 use crate::outcome::{Outcome, judge};
-use crate::residues::{Call as AnyCall, tried};
-use crate::splits::{has_weights, split};
+use crate::residues::Call::Sumcheck;
 use mlu_ring::{ExtensionField, Field, PrimeCharacteristicRing, SelfAlgebra};
 use mlu_sumcheck::run;
-use mlu_test_support::numbers::element;
+use mlu_test_support::numbers::{are, element};
 use multilinear_util::poly::Poly;
 use multilinear_util::split_eq::SplitEq;
 use std::alloc::{AllocError, Global};
@@ -17,14 +17,14 @@ use std::test::Fail;
 
 /// What becomes of the proof. Fails where its inputs are refused.
 pub fn made<R: ExtensionField<R> + SelfAlgebra>(alloc: Global) -> Result<Outcome, AllocError> {
-    let poly = poly::<R>(alloc)?;
-    let point = point::<R>(alloc)?;
+    let poly = counted::<R>(alloc, 8)?;
+    let point = point::<R>(alloc, &[2, 3, 5])?;
     let mut zeros = R::zero_vec(alloc, 8)?;
-    let weights = split::<R>(alloc, &point)?;
+    let weights = split::<R>(alloc, Scalars, &point)?;
     let answered = proved(alloc, &poly, &weights, point.as_slice());
     let kept = has_weights(&weights, zeros.as_mut_slice())
-        && is_poly(poly.as_slice())
-        && is_point(&point);
+        && is_counted(&poly, 8)
+        && are(point.as_slice(), &[2, 3, 5]);
     Ok(judge(answered, kept))
 }
 
@@ -46,5 +46,5 @@ fn proved<R: ExtensionField<R> + SelfAlgebra>(
 
 #[test]
 fn sumcheck_run(rt: HostRuntime) -> Result<(), Fail> {
-    tried(&rt, "mlu_sumcheck::run", AnyCall::Sumcheck)
+    Sumcheck.tried(&rt, "mlu_sumcheck::run")
 }

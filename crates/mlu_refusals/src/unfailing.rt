@@ -1,13 +1,16 @@
 //! Calls that ask for no memory, so that they do not fail whichever allocation is refused.
 ghost use Rattle.std.specs.Prelude.{◌≡◌};
 
-use crate::given::{is_poly, point, poly};
-use crate::outcome::{Outcome, is_served, judge, written};
-use crate::residues::{Call as AnyCall, residues};
+use crate::given::{counted, is_counted, point};
+use crate::outcome::{Outcome, judge};
+use crate::residues::Call::Unfailing;
+use mlu_point::eq_batch::{
+    eval_eq_base_batch, eval_eq_base_batch_in_chunks, eval_eq_batch, eval_eq_batch_in_chunks,
+};
 use mlu_point::point::{BitOrder, Point, PointView};
 use mlu_ring::{
-    Additive, ExtensionField, Field, PackedFieldExtension, PrimeCharacteristicRing, Sample,
-    Unmetered,
+    Additive, ExtensionField, Field, PackedFieldExtension, PrimeCharacteristicRing,
+    RowMajorMatrixView, Sample, Unmetered,
 };
 use mlu_test_support::numbers::{are, element, elements};
 use multilinear_util::poly::{PolyMaybePacked, PolyView};
@@ -19,6 +22,7 @@ use std::slice;
 /// The calls that this file makes.
 #[derive(Clone, Copy)]
 pub enum Call {
+    NoPoints,
     EmptyPoint,
     WholeChunk,
     SizeThatIsThere,
@@ -31,12 +35,26 @@ pub fn made<R: ExtensionField<R> + Sample>(alloc: Global, call: Call) -> Result<
     requires { R.Packing.WIDTH ≡ 4 }
 {
     match call {
+        Call::NoPoints => no_points::<R>(alloc),
         Call::EmptyPoint => Ok(empty_point::<R>(alloc)),
         Call::WholeChunk => whole_chunk::<R>(alloc),
         Call::SizeThatIsThere => size_that_is_there::<R>(alloc),
         Call::Scalars => scalars::<R>(alloc),
         Call::SplitInLanes => split_in_lanes::<R>(alloc),
     }
+}
+
+/// Batches of no points.
+fn no_points<R: ExtensionField<R>>(alloc: Global) -> Result<Outcome, AllocError> {
+    let mut places: Vec<R> = elements(alloc, &[9, 9, 9])?;
+    let none: RowMajorMatrixView<'_, R> = RowMajorMatrixView::new(&[], 0);
+    let out = places.as_mut_slice();
+    let added = eval_eq_batch::<R, R, true>(alloc, none, out, &[]).is_ok()
+        && eval_eq_batch_in_chunks::<R, R, true>(alloc, none, out, &[], 1).is_ok();
+    let kept = are(out, &[9, 9, 9]);
+    let cleared = eval_eq_base_batch::<R, R, false>(alloc, none, out, &[]).is_ok()
+        && eval_eq_base_batch_in_chunks::<R, R, false>(alloc, none, out, &[], 1).is_ok();
+    Ok(judge(Ok(added && cleared), kept && are(out, &[0, 0, 0])))
 }
 
 /// All calls that make or copy a point of no coordinates.
@@ -56,7 +74,7 @@ fn empty_point<R: Field + Sample>(alloc: Global) -> Outcome {
 
 /// A table in one chunk.
 fn whole_chunk<R: Field>(alloc: Global) -> Result<Outcome, AllocError> {
-    let point = point::<R>(alloc)?;
+    let point = point::<R>(alloc, &[2, 3, 5])?;
     let mut out: Vec<R> = elements(alloc, &[9; 8])?;
     let done = point.fill_equality_table_in_chunks(
         alloc,
@@ -72,18 +90,18 @@ fn whole_chunk<R: Field>(alloc: Global) -> Result<Outcome, AllocError> {
 
 /// Zeros appended up to the size that is there.
 fn size_that_is_there<R: PrimeCharacteristicRing>(alloc: Global) -> Result<Outcome, AllocError> {
-    let mut poly = poly::<R>(alloc)?;
+    let mut poly = counted::<R>(alloc, 8)?;
     let done = poly.pad_zeros(3);
-    Ok(judge(Ok(done.is_ok()), is_poly(poly.as_slice())))
+    Ok(judge(Ok(done.is_ok()), is_counted(&poly, 8)))
 }
 
 /// A scalar storage, evaluated below the threshold and unpacked.
 fn scalars<R: ExtensionField<R>>(alloc: Global) -> Result<Outcome, AllocError> {
-    let point = point::<R>(alloc)?;
-    let storage: PolyMaybePacked<R, R> = PolyMaybePacked::Scalar(poly::<R>(alloc)?);
+    let point = point::<R>(alloc, &[2, 3, 5])?;
+    let storage: PolyMaybePacked<R, R> = PolyMaybePacked::Scalar(counted::<R>(alloc, 8)?);
     let valued = storage.eval(alloc, &point) == Ok(element(20));
     let unpacked = match storage.unpack(alloc) {
-        Ok(poly) => is_poly(poly.as_slice()),
+        Ok(poly) => is_counted(&poly, 8),
         Err(_) => false,
     };
     Ok(judge(Ok(valued), unpacked))
@@ -93,7 +111,7 @@ fn scalars<R: ExtensionField<R>>(alloc: Global) -> Result<Outcome, AllocError> {
 fn split_in_lanes<R: ExtensionField<R>>(alloc: Global) -> Result<Outcome, AllocError>
     requires { R.Packing.WIDTH ≡ 4 }
 {
-    let point: Point<R> = Point::new(elements(alloc, &[2; 4])?);
+    let point = point::<R>(alloc, &[2; 4])?;
     let split = SplitEq::<R, R>::new_packed(alloc, &point, R::ONE)?;
     let mut out: Vec<R::ExtensionPacking> = elements(alloc, &[0; 4])?;
     let done = split.accumulate_into_packed(alloc, out.as_mut_slice(), None);
@@ -108,26 +126,31 @@ fn split_in_lanes<R: ExtensionField<R>>(alloc: Global) -> Result<Outcome, AllocE
 }
 
 #[test]
+fn no_points_do_not_fail(rt: HostRuntime) {
+    assert!(rt; Unfailing(Call::NoPoints).is_served(rt.alloc()));
+}
+
+#[test]
 fn empty_points(rt: HostRuntime) {
-    assert!(rt; is_served(residues(rt.alloc(), AnyCall::Unfailing(Call::EmptyPoint))));
+    assert!(rt; Unfailing(Call::EmptyPoint).is_served(rt.alloc()));
 }
 
 #[test]
 fn tables_in_one_chunk(rt: HostRuntime) {
-    assert!(rt; is_served(residues(rt.alloc(), AnyCall::Unfailing(Call::WholeChunk))));
+    assert!(rt; Unfailing(Call::WholeChunk).is_served(rt.alloc()));
 }
 
 #[test]
 fn padded_to_its_size(rt: HostRuntime) {
-    assert!(rt; is_served(residues(rt.alloc(), AnyCall::Unfailing(Call::SizeThatIsThere))));
+    assert!(rt; Unfailing(Call::SizeThatIsThere).is_served(rt.alloc()));
 }
 
 #[test]
 fn scalars_below_the_threshold(rt: HostRuntime) {
-    assert!(rt; is_served(residues(rt.alloc(), AnyCall::Unfailing(Call::Scalars))));
+    assert!(rt; Unfailing(Call::Scalars).is_served(rt.alloc()));
 }
 
 #[test]
 fn split_tables_in_lanes(rt: HostRuntime) {
-    assert!(rt; is_served(residues(rt.alloc(), AnyCall::Unfailing(Call::SplitInLanes))));
+    assert!(rt; Unfailing(Call::SplitInLanes).is_served(rt.alloc()));
 }

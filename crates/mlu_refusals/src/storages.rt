@@ -1,0 +1,115 @@
+//! Calls of a polynomial in scalars or in lanes.
+
+use crate::answers::{gives, has_lanes};
+use crate::given::Half::{self, Lanes, Scalars};
+use crate::given::Receiver::{self, Owner, View};
+use crate::given::{counted, is_counted, packed, point};
+use crate::outcome::{Outcome, judge};
+use crate::residues::Call::Storage;
+use mlu_point::point::Point;
+use mlu_ring::{ExtensionField, Field};
+use multilinear_util::poly::{Poly, PolyMaybePacked};
+use std::alloc::{AllocError, Global};
+use std::test::Fail;
+
+/// The calls that this file makes.
+#[derive(Clone, Copy)]
+pub enum Call {
+    Eval(Receiver),
+    TryClone,
+    Unpack,
+}
+
+/// What becomes of the call. Fails where its inputs are refused.
+pub fn made<R: ExtensionField<R>>(
+    alloc: Global,
+    half: Half,
+    call: Call,
+) -> Result<Outcome, AllocError>
+    requires { R.Packing.WIDTH ≡ 4 }
+{
+    match half {
+        Scalars => {
+            let storage = PolyMaybePacked::Scalar(counted::<R>(alloc, 512)?);
+            of_storage::<R>(alloc, call, storage, &point(alloc, &[2; 9])?, 1023)
+        }
+        Lanes => {
+            let storage = PolyMaybePacked::Packed(packed::<R>(alloc)?);
+            of_storage::<R>(alloc, call, storage, &point(alloc, &[2, 3, 5])?, 20)
+        }
+    }
+}
+
+/// The same, where the value at the point is the number.
+fn of_storage<R: ExtensionField<R>>(
+    alloc: Global,
+    call: Call,
+    storage: PolyMaybePacked<R, R>,
+    point: &Point<R>,
+    number: i32,
+) -> Result<Outcome, AllocError> {
+    if storage.num_variables() != point.num_variables() {
+        return Err(AllocError);
+    }
+    let answered = match call {
+        Call::Eval(Owner) => gives(storage.eval(alloc, point), number),
+        Call::Eval(View) => gives(storage.as_view().eval(alloc, point), number),
+        Call::TryClone => match storage.try_clone(alloc) {
+            Ok(copy) => Ok(copy.num_variables() == point.num_variables()),
+            Err(refused) => Err(refused),
+        },
+        Call::Unpack => return Ok(unpack(alloc, storage)),
+    };
+    Ok(judge(answered, true))
+}
+
+/// A refused unpacking hands the packed table back.
+fn unpack<R: ExtensionField<R>>(alloc: Global, storage: PolyMaybePacked<R, R>) -> Outcome {
+    match storage.unpack(alloc) {
+        Ok(poly) => judge(Ok(is_counted(&poly, 8)), true),
+        Err((table, refused)) => {
+            let kept = match &table {
+                PolyMaybePacked::Packed(packed) => {
+                    has_lanes::<R>(packed.as_slice(), &[1, 2, 3, 4, 5, 6, 7, 8])
+                }
+                PolyMaybePacked::Scalar(_) => false,
+            };
+            judge(Err(refused), kept)
+        }
+    }
+}
+
+#[test]
+fn value_of_storage(rt: HostRuntime) -> Result<(), Fail> {
+    Storage(Scalars, Call::Eval(Owner)).tried(&rt, "PolyMaybePacked::eval")
+}
+
+#[test]
+fn value_of_borrowed_storage(rt: HostRuntime) -> Result<(), Fail> {
+    Storage(Scalars, Call::Eval(View)).tried(&rt, "PolyMaybePackedView::eval")
+}
+
+#[test]
+fn copied_storage(rt: HostRuntime) -> Result<(), Fail> {
+    Storage(Scalars, Call::TryClone).tried(&rt, "PolyMaybePacked::try_clone")
+}
+
+#[test]
+fn unpacked_storage(rt: HostRuntime) -> Result<(), Fail> {
+    Storage(Lanes, Call::Unpack).tried(&rt, "PolyMaybePacked::unpack")
+}
+
+#[test]
+fn value_of_packed_storage(rt: HostRuntime) -> Result<(), Fail> {
+    Storage(Lanes, Call::Eval(Owner)).tried(&rt, "PolyMaybePacked::eval of packed values")
+}
+
+#[test]
+fn value_of_borrowed_packed_storage(rt: HostRuntime) -> Result<(), Fail> {
+    Storage(Lanes, Call::Eval(View)).tried(&rt, "PolyMaybePackedView::eval of packed values")
+}
+
+#[test]
+fn copied_packed_storage(rt: HostRuntime) -> Result<(), Fail> {
+    Storage(Lanes, Call::TryClone).tried(&rt, "PolyMaybePacked::try_clone of packed values")
+}
