@@ -1,4 +1,5 @@
 //! Calls of a polynomial in scalars or in lanes.
+ghost use Rattle.std.specs.Prelude.{◌≡◌};
 
 use crate::answers::{gives, has_lanes};
 use crate::given::Half::{self, Lanes, Scalars};
