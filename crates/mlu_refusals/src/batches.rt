@@ -1,5 +1,6 @@
 //! Batches of points.
 ghost use Rattle.std.specs.Prelude.{◌≡◌, ◌/◌, ◌^◌, ◌<◌, length};
+ghost use Rattle.mlu_ring.specs.Matrices.{AreRows};
 
 use crate::outcome::{Outcome, written};
 use crate::residues::Call::Batch;
@@ -58,6 +59,7 @@ fn of_points<R: ExtensionField<R>>(
     before: &[i32],
     after: &[i32],
 ) -> Result<Outcome, AllocError>
+    requires rows { AreRows (length points.now) (length scalars.now) }
     requires some { 0 < length scalars.now }
     requires variables { 0 < length points.now / length scalars.now }
     requires places { length before.now ≡ 2 ^ (length points.now / length scalars.now) }
