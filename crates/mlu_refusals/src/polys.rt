@@ -7,7 +7,7 @@ use crate::outcome::{Outcome, judge, written};
 use crate::residues::Call::Poly as Tried;
 use mlu_point::point::Point;
 use mlu_ring::{ExtensionField, Field, PrimeCharacteristicRing, Sample};
-use mlu_test_support::numbers::element;
+use mlu_test_support::numbers::{are, element};
 use multilinear_util::poly::Poly;
 use rand_pcg::Pcg32;
 use std::alloc::{AllocError, Global};
@@ -44,7 +44,8 @@ pub fn made<R: ExtensionField<R> + Sample>(alloc: Global, call: Call) -> Result<
             gives_lanes::<R>(table, &[-8, 10, 12, -15, 16, -20, -24, 30])
         }
     };
-    Ok(judge(answered, is_counted(&poly, 8)))
+    let kept = is_counted(&poly, 8) && are(point.as_slice(), &[2, 3, 5]);
+    Ok(judge(answered, kept))
 }
 
 /// A refused growth leaves the polynomial as it was.

@@ -8,6 +8,7 @@ use crate::residues::Call::Successor as Tried;
 use mlu_point::point::Point;
 use mlu_point::point::Successor::Wrap;
 use mlu_ring::{ExtensionField, Field};
+use mlu_test_support::numbers::are;
 use multilinear_util::poly::Poly;
 use std::alloc::{AllocError, Global};
 use std::test::Fail;
@@ -41,7 +42,8 @@ pub fn made<R: ExtensionField<R>>(alloc: Global, call: Call) -> Result<Outcome, 
         Call::EvalNextBaseBy(Owner) => gives(poly.eval_next_base_by(alloc, Wrap, point), -219),
         Call::EvalNextBaseBy(View) => gives(view.eval_next_base_by(alloc, Wrap, point), -219),
     };
-    Ok(judge(answered, is_counted(&poly, 8)))
+    let kept = is_counted(&poly, 8) && are(point.as_slice(), &[2, 3, 5]);
+    Ok(judge(answered, kept))
 }
 
 #[test]
