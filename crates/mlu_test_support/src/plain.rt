@@ -1,7 +1,7 @@
 //! The definitions, each index by itself.
 ghost use Rattle.std.specs.Prelude.{◌≡◌, ◌*◌, ◌<◌, ◌^◌, IfOk, length, vec_len};
 
-use mlu_ring::{Additive, Algebra, PrimeCharacteristicRing};
+use mlu_ring::{Additive, Algebra, PrimeCharacteristicRing, row_range};
 use std::alloc::{AllocError, Global};
 
 /// The product over the coordinates: each where its bit of `x` is 1, and one less it where the bit
@@ -78,13 +78,17 @@ pub fn split_table<R: PrimeCharacteristicRing>(
 {
     let mut whole = R::zero_vec(alloc, eq0.len() * weights.len())?;
     for j in 0..eq0.len() {
-        let start = j * weights.len();
-        let row = &mut whole[start..start + weights.len()];
-        for i in 0..weights.len() {
-            row[i] = eq0[j] * weights[i];
-        }
+        let row = row_range(whole.len(), eq0.len(), j);
+        write_scaled(&mut whole[row], eq0[j], weights);
     }
     Ok(whole)
+}
+
+/// Writes each weight times `entry`.
+fn write_scaled<R: PrimeCharacteristicRing>(out: &mut [R], entry: R, weights: &[R]) {
+    for (place, weight) in out.iter_mut().zip(weights) {
+        *place = entry * *weight;
+    }
 }
 
 /// The sum over `y` of weight `y` times `entries[first + y * step]`.

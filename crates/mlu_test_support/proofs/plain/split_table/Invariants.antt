@@ -3,6 +3,3 @@ use Rattle.mlu_test_support.proofs.plain.split_table.Given as goal
 
 abbrev pub invariant-loop-j : goal.invariant-loop-j
 invariant-loop-j g l = length l.whole.items ≡ length l.initial.whole.items
-
-abbrev pub invariant-loop-i : goal.invariant-loop-i
-invariant-loop-i g l = length l.row ≡ length l.initial.row
