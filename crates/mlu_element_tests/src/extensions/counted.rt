@@ -68,17 +68,13 @@ fn of_list<F: Field, EF: ExtensionField<F>>(coefficients: &[F]) -> EF
     )
 }
 
-/// The packed value with these coefficients, which are read by their numbers.
+/// The packed value with these coefficients, and zeros where there are none.
 fn of_packed_list<F: Field, EF: ExtensionField<F>>(
     coefficients: &[F::Packing],
-) -> EF::ExtensionPacking
-    requires { length coefficients.now ≡ EF.DIMENSION }
-{
-    EF::ExtensionPacking::from_packed_coefficients_fn(
-        |k|
-            requires { k < length coefficients.now }
-        { coefficients[k] },
-    )
+) -> EF::ExtensionPacking {
+    EF::ExtensionPacking::from_packed_coefficients_fn(|k| {
+        coefficients.get(k).copied().unwrap_or(F::Packing::ZERO)
+    })
 }
 
 /// Whether `element` has the coefficients 1, 2, 3, 4, alone and in the last of four lanes.
