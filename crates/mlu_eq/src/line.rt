@@ -24,7 +24,8 @@ pub fn interpolate_base<F: Additive, EF: Algebra<F>>(low: F, high: F, r: EF) -> 
     r.scale(high - low).plus(low)
 }
 
-/// [`interpolate_base`] in a loop by one `r`, which the compiler prepares once.
+/// [`interpolate_base`] in a loop by one `r`, which the compiler prepares once. The low entry is added as an
+/// element, not by `plus`, so that a sum is one addition of vectors.
 #[inline(always)]
 pub fn interpolate_base_at_fixed<F: Additive, EF: Algebra<F>>(low: F, high: F, r: EF) -> EF
     ensures { result ≡ interpolated EF.ring r (EF.embed low) (EF.embed high) }
