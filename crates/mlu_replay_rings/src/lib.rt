@@ -1,8 +1,7 @@
-//! The calls of recorded cases at the rings and lane widths that a case names.
+//! The calls of recorded cases, and the sweep over all calls, at the rings and lane widths that a case names.
 //!
-//! Stands on `mlu_replay_calls`, which has the calls; the program `mlu_replay` stands on it. It is a crate
-//! of its own since the calls over every ring take long to prove, and nothing here changes with
-//! them.
+//! Stands on `mlu_replay_calls` and `mlu_sweep`, which name no ring; the program `mlu_replay` stands on it. It is a
+//! crate of its own since the calls over every ring take long to prove, and nothing here changes with them.
 #![tactic(auto)]
 
 ghost use Rattle.std.specs.Prelude.{◌<◌};
@@ -13,8 +12,12 @@ use mlu_replay_calls::element::Element;
 use mlu_replay_calls::ops::{mixed, over_base, over_itself};
 use mlu_replay_calls::words::Words;
 use mlu_replay_lines::fault::{Fault, Reason};
-use mlu_ring::ExtensionField;
-use std::alloc::Global;
+use mlu_ring::{ExtensionField, Sample, SelfAlgebra};
+use mlu_sweep::{Difference, sweep};
+use std::alloc::{AllocError, Global};
+
+/// The call that compares all others with their definitions, up to a number of variables.
+const SWEEP: &str = "sweep";
 
 /// The answer over the rings that the tag names, at a lane width.
 macro_rules! over_rings {
@@ -68,6 +71,17 @@ fn sixteen_lanes(op: &str, words: &mut Words<'_>) -> Result<String, Fault> {
     over_rings!(16, op, words)
 }
 
+/// What a sweep has found, in words.
+fn found(
+    alloc: Global,
+    difference: Result<Option<Difference>, AllocError>,
+) -> Result<String, Fault> {
+    match difference? {
+        None => Ok(String::from_str(alloc, "agree")?),
+        Some(difference) => Ok(format!(in alloc; "{difference}")?),
+    }
+}
+
 // Each function below names its rings once for all widths (docs/DECISIONS.md, "Tests"); for quartics
 // over themselves the check would stop at its step limit.
 
@@ -77,6 +91,10 @@ where
     Lanes<BabyBear<W>, W>: LaneWidth<W>,
     requires { W < 32 }
 {
+    if op == SWEEP {
+        let (alloc, most) = (words.alloc(), words.number()?);
+        return found(alloc, sweep::<BabyBear<W>, BabyBear<W>>(alloc, most));
+    }
     over_itself::<BabyBear<W>>(op, words)
 }
 
@@ -86,12 +104,16 @@ where
     Lanes<WrappingU64<W>, W>: LaneWidth<W>,
     requires { W < 32 }
 {
+    if op == SWEEP {
+        let (alloc, most) = (words.alloc(), words.number()?);
+        return found(alloc, sweep::<WrappingU64<W>, WrappingU64<W>>(alloc, most));
+    }
     over_itself::<WrappingU64<W>>(op, words)
 }
 
 /// Over the residues modulo a prime, with an extension of them. The bound names its field: a call with two
 /// types as parameters is more than the prover takes.
-fn over_residues<const W: usize, EF: ExtensionField<BabyBear<W>> + Element>(
+fn over_residues<const W: usize, EF: ExtensionField<BabyBear<W>> + SelfAlgebra + Sample + Element>(
     op: &str,
     words: &mut Words<'_>,
 ) -> Result<String, Fault>
@@ -99,6 +121,10 @@ where
     Lanes<BabyBear<W>, W>: LaneWidth<W>,
     requires { W < 32 }
 {
+    if op == SWEEP {
+        let (alloc, most) = (words.alloc(), words.number()?);
+        return found(alloc, sweep::<BabyBear<W>, EF>(alloc, most));
+    }
     mixed::<BabyBear<W>, EF>(op, words)
 }
 

@@ -1,5 +1,5 @@
 use Rattle.std.proofs.Common.{◌-◌, ◌≤◌, vec_len}
-use Rattle.mlu_sweep_calls.proofs.draws.elements.Given as goal
+use Rattle.mlu_sweep.proofs.draws.elements.Given as goal
 
 abbrev pub invariant-loop-values : goal.invariant-loop-values
 invariant-loop-values g l = vec_len l.values ≤ l.n

@@ -3,7 +3,7 @@
 //!
 //! [`sweep`] draws tables and points of each size, makes the calls, and compares what they give with the
 //! plain sums. Stands on `multilinear_util`, on `mlu_kernel` and `mlu_eq` below it, and on the crates of
-//! test support; the program `mlu_sweep` stands on it. It is a crate of its own since it names no ring.
+//! test support; the replay makes it at each ring. It is a crate of its own since it names no ring.
 #![tactic(auto)]
 
 mod batches;

@@ -1,8 +1,8 @@
 use Rattle.std.proofs.Common.{length, refl, ap, ◌∙◌}
 use Rattle.mlu_ring.proofs.Rows.{rows_of-multiple}
 use Rattle.mlu_point.proofs.Sizes.{places-of_rows}
-use Rattle.mlu_sweep_calls.proofs.Products.{chunks_fit}
-use Rattle.mlu_sweep_calls.proofs.batches.matrix.Goals as goal
+use Rattle.mlu_sweep.proofs.Products.{chunks_fit}
+use Rattle.mlu_sweep.proofs.batches.matrix.Goals as goal
 
 pub new-requires : goal.new-requires
 new-requires g c = rows_of-multiple _ c.args.variables c.args.points c.requires.values
