@@ -14,26 +14,31 @@ set -euo pipefail
 cd "$(dirname "$0")"
 
 places=$(nproc)
+# Proofs at a time in the gate, each in one process: a second process of a proof loads all again what the
+# first has loaded, and more proofs at a time slow each other down. RT_JOBS is read by rt.
+proofs=${RT_JOBS:-2}
+# The milliseconds after which the prover's memory goes back to the system, which it soon takes again.
+export MIMALLOC_PURGE_DELAY=30000
 room=$(mktemp -d)
 trap 'rm -rf "$room"' EXIT
 
-# Runs the tests of crate $1 with allocation $2 of each test failing.
+# Runs the tests of crate $1 whose names have $2 with allocation $3 of each test failing.
 refuse() {
-  if (cd "crates/$1" && rt try --test --fail-alloc "$2") >"$room/$2.log" 2>&1; then
-    touch "$room/$2.passed"
+  if (cd "crates/$1" && rt try --test --fail-alloc "$3" -- "$2") >"$room/$3.log" 2>&1; then
+    touch "$room/$3.passed"
   fi
 }
 
-# Runs the tests of crate $1 with allocation 1, 2, .. of each test failing, as many at once as there
-# are processors. Their lines say which calls are then refused and which are served; each must be
-# refused at some allocation, and served in the end.
+# Runs the tests of crate $1, those whose names have $2 where that is given, with allocation 1, 2, .. of
+# each test failing, as many at once as there are processors. Their lines say which calls are then refused
+# and which are served; each must be refused at some allocation, and served in the end.
 refusals() {
-  local crate=$1 first allocation served=
+  local crate=$1 names=${2:-} first allocation served=
   rm -f "$room"/*
   : >"$room/refused"
   for ((first = 1; first <= 32 && !${#served}; first += places)); do
     for ((allocation = first; allocation < first + places; allocation++)); do
-      refuse "$crate" "$allocation" &
+      refuse "$crate" "$names" "$allocation" &
     done
     wait
     for ((allocation = first; allocation < first + places; allocation++)); do
@@ -78,10 +83,10 @@ faulty() {
 
 # Replays a line with allocation $1 refused, one of the buffers of the streams, and tests that the replay says so.
 refused_replay() {
-  if ! (cd crates/mlu_replay_lines && rt try --test --fail-alloc "$1" -- streams_refused) >"$room/out.$1" 2>&1 ||
+  if ! (cd crates/mlu_program_tests && rt try --test --fail-alloc "$1" -- streams_refused) >"$room/out.$1" 2>&1 ||
     ! grep -q '^ *refused replay_streams' "$room/out.$1"; then
     cat "$room/out.$1"
-    echo "mlu_replay_lines: allocation $1 is refused, and the replay does not say so"
+    echo "mlu_replay: allocation $1 is refused, and the replay does not say so"
     exit 1
   fi
 }
@@ -121,7 +126,7 @@ if [ "${1:-}" = --refusals ]; then
 fi
 
 refusals mlu_refusals
-refusals mlu_command_tests
+refusals mlu_program_tests command::
 faulty 2 'mlu: length' -- eval 1,2,3 2
 faulty 2 'mlu: usage' -- sumcheck 3,4 2 5 6
 faulty 3 'mlu: memory' --fail-alloc 1 -- eval 1,2,3,4 2,3
@@ -129,7 +134,7 @@ refused_replay 1 &
 refused_replay 2
 wait "$!"
 status=0
-rt ci | tee "$room/said" || status=$?
+RT_JOBS=$proofs rt ci | tee "$room/said" || status=$?
 echo "all of it took $((SECONDS / 60)) minutes on $places processors"
 
 if [ ! -e crates/mlu_c/out/libmlu_c.a ] || ! command -v cargo >/dev/null; then

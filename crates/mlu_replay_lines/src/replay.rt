@@ -239,6 +239,3 @@ fn write_count<W: Write>(tally: Tally, out: &mut W) -> Result<(), Stop>
     .map_err(|_| Stop::Write)?;
     out.flush().map_err(|_| Stop::Write)
 }
-
-#[cfg(test)]
-mod tests;

@@ -1,5 +1,7 @@
 //! The worked rows of the program, whole and with an allocation refused.
 
+mod emit;
+
 use mlu_command::{Fault, answer};
 use std::alloc::{AllocError, Global};
 use std::test::Fail;

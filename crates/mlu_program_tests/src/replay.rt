@@ -1,8 +1,8 @@
 //! What is written of lines, and their count; streams that fail, and buffers that are refused.
 
-use super::{Answers, Tally, replay, replay_streams};
-use crate::fault::{Fault, Reason};
-use crate::stop::Stop;
+use mlu_replay_lines::fault::{Fault, Reason};
+use mlu_replay_lines::replay::{Answers, Tally, replay, replay_streams};
+use mlu_replay_lines::stop::Stop;
 use std::alloc::Global;
 use std::io::{ErrorKind, Read, Write};
 use std::test::Fail;
