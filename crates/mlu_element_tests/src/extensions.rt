@@ -4,7 +4,7 @@ ghost use Rattle.std.specs.Mem.{type_size};
 
 mod counted;
 mod dots;
-mod items;
+pub mod items;
 mod products;
 mod quartics;
 mod texts;

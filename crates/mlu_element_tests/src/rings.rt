@@ -19,10 +19,16 @@ pub enum RingRow {
 
 /// What is tried over an extension `EF` of residues.
 pub enum Row<EF> {
+    CountedTables,
     Extensions(extensions::Row<EF>),
     Kernels(kernels::Row),
-    Points(points::Row),
     Ring(RingRow),
+}
+
+/// What is tried over pairs of residues, as a ring alone.
+pub enum PairRow {
+    Coordinates,
+    Items(extensions::items::Row<ProductAlgebra<BabyBear<2>, 2>>),
 }
 
 /// Whether the row over one ring holds.
@@ -44,9 +50,9 @@ where
     requires { W ≤ 16 }
 {
     match row {
+        Row::CountedTables => points::tables::counted::<EF>(alloc),
         Row::Extensions(row) => extensions::holds::<BabyBear<W>, EF>(alloc, row),
         Row::Kernels(row) => kernels::holds::<BabyBear<W>, EF>(alloc, row),
-        Row::Points(row) => points::holds::<BabyBear<W>, EF>(alloc, row),
         Row::Ring(row) => ring_holds::<EF>(alloc, row),
     }
 }
@@ -60,37 +66,33 @@ where
     over_residues::<W, BabyBear<W>>(alloc, row)
 }
 
-/// Whether the row holds over the quartic extension of residues.
-pub fn quartics<const W: usize>(
+/// Whether the row holds over the quartic extension of residues, whose packing has four lanes.
+pub fn quartics(
     alloc: Global,
-    row: Row<QuarticExtension<BabyBear<W>>>,
-) -> Result<bool, AllocError>
-where
-    Lanes<BabyBear<W>, W>: LaneWidth<W>,
-    requires { W ≤ 16 }
-{
-    over_residues::<W, QuarticExtension<BabyBear<W>>>(alloc, row)
+    row: Row<QuarticExtension<BabyBear<4>>>,
+) -> Result<bool, AllocError> {
+    over_residues::<4, QuarticExtension<BabyBear<4>>>(alloc, row)
 }
 
-/// Whether the row holds over products of `D` copies of the residues.
-pub fn copies<const W: usize, const D: usize>(
+/// Whether the row holds over products of two copies of the residues, whose packing has two lanes.
+pub fn pairs(alloc: Global, row: PairRow) -> Result<bool, AllocError> {
+    match row {
+        PairRow::Coordinates => {
+            points::coordinates::rows::<ProductAlgebra<BabyBear<2>, 2>>(alloc)
+        }
+        PairRow::Items(row) => extensions::items::holds(alloc, row),
+    }
+}
+
+/// Whether the row holds over products of nine copies of the residues, whose packing has four lanes.
+pub fn nine_copies(
     alloc: Global,
-    row: Row<ProductAlgebra<BabyBear<W>, D>>,
-) -> Result<bool, AllocError>
-where
-    Lanes<BabyBear<W>, W>: LaneWidth<W>,
-    requires width { W ≤ 16 }
-    requires few { D < 10 }
-{
-    over_residues::<W, ProductAlgebra<BabyBear<W>, D>>(alloc, row)
+    row: Row<ProductAlgebra<BabyBear<4>, 9>>,
+) -> Result<bool, AllocError> {
+    over_residues::<4, ProductAlgebra<BabyBear<4>, 9>>(alloc, row)
 }
 
 /// Whether the row holds over the residues modulo 2^64.
 pub fn words<const W: usize>(alloc: Global, row: RingRow) -> Result<bool, AllocError> {
     ring_holds::<WrappingU64<W>>(alloc, row)
-}
-
-/// Whether the row of points holds over quartics as an extension of themselves.
-pub fn quartics_alone(alloc: Global, row: points::Row) -> Result<bool, AllocError> {
-    points::holds::<QuarticExtension<BabyBear<4>>, QuarticExtension<BabyBear<4>>>(alloc, row)
 }

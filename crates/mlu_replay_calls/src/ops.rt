@@ -46,8 +46,9 @@ pub fn over_base<
     answer
 }
 
-/// The calls on tables in a base field, with points and scales in its extension.
-pub fn mixed<F: Field + Element, EF: ExtensionField<F> + Element>(
+/// The calls on tables in a base field, with points and scales in its extension, and those over the extension
+/// alone.
+pub fn mixed<F: Field + Element, EF: ExtensionField<F> + SelfAlgebra + Element>(
     op: &str,
     words: &mut Words<'_>,
 ) -> Result<String, Fault> {
@@ -71,8 +72,9 @@ pub fn mixed<F: Field + Element, EF: ExtensionField<F> + Element>(
     }
 }
 
-/// The calls on operands in a ring and in an extension of it, which may be the ring itself.
-fn either<F: Field + Element, EF: ExtensionField<F> + Element>(
+/// The calls on operands in a ring and in an extension of it, which may be the ring itself, and those over
+/// the extension alone.
+fn either<F: Field + Element, EF: ExtensionField<F> + SelfAlgebra + Element>(
     op: &str,
     words: &mut Words<'_>,
 ) -> Result<String, Fault> {
@@ -82,15 +84,15 @@ fn either<F: Field + Element, EF: ExtensionField<F> + Element>(
         "fix_prefix_var" => folds::fix_prefix_var::<F, EF>(words),
         "fix_prefix_var_at" => folds::fix_prefix_var_at::<F, EF>(words),
         "fix_suffix_var" => folds::fix_suffix_var::<F, EF>(words),
-        _ => Err(Fault::Unknown(Reason::Op)),
+        _ => over_one_ring::<EF>(op, words),
     }
 }
 
 /// The calls whose operands lie in an extension, over the packed form that its base field gives.
-fn extended<
-    F: Field + Element,
-    EF: ExtensionField<F> + ExtensionField<EF> + SelfAlgebra + MapFrom<EF> + Element,
->(op: &str, words: &mut Words<'_>) -> Result<String, Fault> {
+fn extended<F: Field + Element, EF: ExtensionField<F> + ExtensionField<EF> + MapFrom<EF> + Element>(
+    op: &str,
+    words: &mut Words<'_>,
+) -> Result<String, Fault> {
     match op {
         "eval_ext" => evaluations::eval_ext::<F, EF>(words),
         "eval_packed" => evaluations::eval_packed::<F, EF>(words),
@@ -111,7 +113,7 @@ fn extended<
         "split.accumulate_next_chunk_into" => {
             successors::accumulate_next_chunk_into::<F, EF>(words)
         }
-        _ => over_one_ring::<EF>(op, words),
+        _ => Err(Fault::Unknown(Reason::Op)),
     }
 }
 

@@ -48,7 +48,7 @@ impl Reason {
             Reason::Missing => "a word is missing",
             Reason::Surplus => "there are too many words",
             Reason::Width => "the width is none of 1, 2, 4, 8, 16",
-            Reason::Tag => "the tag is none of b, m, e, p0, p1, p9, u",
+            Reason::Tag => "the tag is none of b, m, e, p0, p1, p8, p9, u",
             Reason::Op => "unknown op at this tag",
             Reason::Element => "a word is no element of its ring, nor a list of such",
             Reason::Number => "a word is no decimal below 2^64",

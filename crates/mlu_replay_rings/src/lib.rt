@@ -28,6 +28,7 @@ macro_rules! over_rings {
             "e" => over_base::<BabyBear<$width>, QuarticExtension<BabyBear<$width>>>($op, $words),
             "p0" => copies::<$width, 0>($op, $words),
             "p1" => copies::<$width, 1>($op, $words),
+            "p8" => copies::<$width, 8>($op, $words),
             "p9" => copies::<$width, 9>($op, $words),
             "u" => residues_of_words::<$width>($op, $words),
             _ => Err(Fault::Unknown(Reason::Tag)),

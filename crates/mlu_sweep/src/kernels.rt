@@ -17,14 +17,14 @@ use mlu_test_support::lanes::{lanes, packed};
 use mlu_test_support::lists::filled;
 use std::alloc::{AllocError, Global};
 
-/// How many packed weights a dot has: few, and more than its columns of coefficients hold.
-const WEIGHTS: [usize; 6] = [0, 1, 2, 3, 5, 129];
+/// More packed weights than are tried. The kernels make columns of the coefficients of few more than a hundred.
+const MOST_WEIGHTS: usize = 131;
 
-/// How many rows, and packed weights of the prefix kernel.
+/// How many rows a dot has.
 const ROWS: [usize; 5] = [0, 1, 2, 3, 5];
 
 /// How many packed places the prefix kernel adds to.
-const PLACES: [usize; 6] = [0, 1, 2, 3, 5, 9];
+const PLACES: [usize; 7] = [0, 1, 2, 3, 5, 8, 17];
 
 /// How many packed values a row of the dots by groups of four has.
 const VALUES: [usize; 7] = [0, 1, 2, 3, 4, 5, 9];
@@ -32,7 +32,8 @@ const VALUES: [usize; 7] = [0, 1, 2, 3, 4, 5, 9];
 /// The most rows that the dots by groups of four take here.
 const MOST_ROWS: usize = 9;
 
-/// Compares each kernel at each of these shapes.
+/// Compares each kernel at each of these shapes: with up to 40 packed weights, and with so many that
+/// both kernels begin to take their eager form.
 pub fn compare<F: Field + Sample, EF: ExtensionField<F> + Sample>(
     alloc: Global,
     report: &mut Report,
@@ -40,17 +41,27 @@ pub fn compare<F: Field + Sample, EF: ExtensionField<F> + Sample>(
     for values in VALUES {
         basis_dots::<F>(alloc, report, values)?;
     }
-    for rows in ROWS {
-        for weights in WEIGHTS {
-            report.shape = Shape::Dot { weights, rows };
-            dot::<F, EF>(alloc, report, weights, rows)?;
+    for weights in 0..MOST_WEIGHTS {
+        if weights <= 40 || weights >= 126 {
+            with_weights::<F, EF>(alloc, report, weights)?;
         }
     }
-    for weights in ROWS {
-        for places in PLACES {
-            report.shape = Shape::Prefix { weights, places };
-            prefix::<F, EF>(alloc, report, weights, places)?;
-        }
+    Ok(())
+}
+
+/// Compares both kernels with so many packed weights, at each number of rows and of places.
+fn with_weights<F: Field + Sample, EF: ExtensionField<F> + Sample>(
+    alloc: Global,
+    report: &mut Report,
+    weights: usize,
+) -> Result<(), AllocError> {
+    for rows in ROWS {
+        report.shape = Shape::Dot { weights, rows };
+        dot::<F, EF>(alloc, report, weights, rows)?;
+    }
+    for places in PLACES {
+        report.shape = Shape::Prefix { weights, places };
+        prefix::<F, EF>(alloc, report, weights, places)?;
     }
     Ok(())
 }
@@ -103,15 +114,14 @@ fn prefix<F: Field + Sample, EF: ExtensionField<F> + Sample>(
     let chunk: Vec<F> = blocks(alloc, report, weights, F::Packing::WIDTH, before.len())?;
     let eq1 = packed::<F, EF>(alloc, &logical, weights)?;
     let w0 = element::<EF>(report);
-    let sums = plus_rows(alloc, &before, (w0, &logical), &chunk);
+    let sums = plus_rows(alloc, &before, (w0, &logical), &chunk)?;
     let answer = prefixed::<F, EF>(alloc, (&before, places), &eq1, &chunk, w0, false);
-    report.lists("compress_prefix_to_packed_packed", answer, sums);
-    let sums = plus_rows(alloc, &before, (w0, &logical), &chunk);
+    report.list("compress_prefix_to_packed_packed", answer, &sums);
     let answer = prefixed::<F, EF>(alloc, (&before, places), &eq1, &chunk, w0, true);
-    report.lists(
+    report.list(
         "compress_prefix_to_packed_packed_kernel_eager",
         answer,
-        sums,
+        &sums,
     );
     Ok(())
 }

@@ -5,7 +5,7 @@ ghost use Rattle.std.specs.Mem.{type_size};
 use super::Row::{Counted, Listed};
 use super::{Bear, quartic};
 use crate::rings::Row::Extensions;
-use crate::rings::{copies, quartics};
+use crate::rings::{nine_copies, quartics};
 use mlu_ext::ProductAlgebra;
 use mlu_ring::{Additive, ExtensionField, Field, Lanewise, PackedFieldExtension, PackedValue};
 use mlu_test_support::lanes::lanes;
@@ -99,14 +99,14 @@ pub fn lists<F: Field, EF: ExtensionField<F>>(element: EF) -> bool
 #[test]
 fn quartics_of_lists(rt: HostRuntime) -> Result<(), Fail> {
     let element = quartic(1, 2, 3, 4);
-    assert!(rt; quartics::<4>(rt.alloc(), Extensions(Listed(element)))?);
+    assert!(rt; quartics(rt.alloc(), Extensions(Listed(element)))?);
     Ok(())
 }
 
 #[test]
 fn quartics_counted(rt: HostRuntime) -> Result<(), Fail> {
     let (element, sum) = (quartic(1, 2, 3, 4), quartic(20, 40, 60, 80));
-    assert!(rt; quartics::<4>(rt.alloc(), Extensions(Counted(element, sum)))?);
+    assert!(rt; quartics(rt.alloc(), Extensions(Counted(element, sum)))?);
     Ok(())
 }
 
@@ -118,6 +118,6 @@ fn nine_copies_counted(rt: HostRuntime) -> Result<(), Fail> {
         ProductAlgebra::from_array(numbers),
         ProductAlgebra::from_array(sums),
     );
-    assert!(rt; copies::<4, 9>(rt.alloc(), Extensions(Counted(element, sum)))?);
+    assert!(rt; nine_copies(rt.alloc(), Extensions(Counted(element, sum)))?);
     Ok(())
 }

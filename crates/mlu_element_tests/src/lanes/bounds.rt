@@ -21,7 +21,7 @@ use std::alloc::{AllocError, Global};
 use std::test::Fail;
 
 /// A call of a ring.
-#[derive(Clone, Copy, Drop)]
+#[derive(Clone, Copy)]
 pub enum RingRow {
     Sums,
     Products,
@@ -128,18 +128,18 @@ fn rings(rt: HostRuntime) -> Result<(), Fail> {
         RingRow::PlaceByPlace,
         RingRow::Scaled,
     ];
-    for (index, row) in rows.into_iter().enumerate() {
+    for (index, row) in rows.iter().enumerate() {
         assert!(rt;
-            residues::<4>(rt.alloc(), Ring(Items(row)))?,
+            residues::<4>(rt.alloc(), Ring(Items(*row)))?,
             "residues, row {index}"
         );
-        assert!(rt; words::<2>(rt.alloc(), Items(row))?, "words, row {index}");
+        assert!(rt; words::<2>(rt.alloc(), Items(*row))?, "words, row {index}");
         assert!(rt;
-            packed_residues(rt.alloc(), row)?,
+            packed_residues(rt.alloc(), *row)?,
             "residues in lanes, row {index}"
         );
         assert!(rt;
-            packed_words(rt.alloc(), row)?,
+            packed_words(rt.alloc(), *row)?,
             "words in lanes, row {index}"
         );
     }

@@ -1,5 +1,5 @@
-//! The weights of points.
-ghost use Rattle.std.specs.Prelude.{◌<◌, ◌≤◌, length};
+//! The weights of points, with their products counted.
+ghost use Rattle.std.specs.Prelude.{◌≤◌};
 
 use mlu_point::point::{BitOrder, Point, PointView};
 use mlu_ring::{Counter, Field, Unmetered};
@@ -11,50 +11,6 @@ const MSB: [i32; 8] = [-8, 10, 12, -15, 16, -20, -24, 30];
 
 /// The same in the other order.
 const LSB: [i32; 8] = [-8, 16, 12, -24, 10, -20, -15, 30];
-
-/// The tables of no coordinate, of two and of three.
-pub fn rows<R: Field>(alloc: Global) -> Result<bool, AllocError> {
-    Ok(
-        has_tables::<R>(alloc, &[], &[1], &[1])?
-            && has_tables::<R>(alloc, &[2, 3], &[2, -3, -4, 6], &[2, -4, -3, 6])?
-            && has_tables::<R>(alloc, &[2, 3, 5], &MSB, &LSB)?,
-    )
-}
-
-/// Whether these are the point's tables, and the weights of its vertices, after which there is none.
-fn has_tables<R: Field>(
-    alloc: Global,
-    coordinates: &[i32],
-    msb: &[i32],
-    lsb: &[i32],
-) -> Result<bool, AllocError>
-    requires { length coordinates.now < 64 }
-{
-    let point: Point<R> = Point::new(elements(alloc, coordinates)?);
-    let weights = point.equality_weights_msb(alloc)?;
-    let reversed = point.equality_weights_lsb(alloc)?;
-    Ok(are(&weights, msb) && are(&reversed, lsb) && has_weights(&point, &weights))
-}
-
-/// Whether these are the weights of all vertices.
-fn has_weights<R: Field>(point: &Point<R>, weights: &[R]) -> bool {
-    for x in 0..=weights.len() {
-        if point.equality_at_vertex(x) != weights.get(x).copied() {
-            return false;
-        }
-    }
-    true
-}
-
-/// 67 coordinates 2 at the vertex of 64 ones, behind three zeros.
-pub fn many_coordinates<R: Field>(alloc: Global) -> Result<bool, AllocError> {
-    let point: Point<R> = Point::new(elements(alloc, &[2; 67])?);
-    let mut power = R::ONE;
-    for _ in 0..64 {
-        power = power.double();
-    }
-    Ok(point.equality_at_vertex(usize::MAX) == Some(-power))
-}
 
 /// The tables of (2, 3, 5) with so many low coordinates, those of (2, 3), and that of no coordinate,
 /// with their products counted; and one whose products are not shown.
