@@ -59,38 +59,33 @@ where
     }
 }
 
-/// Whether the row holds over the quartic extension of residues.
-pub fn quartics<const W: usize>(alloc: Global, row: Row) -> Result<bool, AllocError>
-where
-    Lanes<BabyBear<W>, W>: LaneWidth<W>,
-    requires { W ≤ 16 }
-{
-    over_residues::<W, QuarticExtension<BabyBear<W>>>(alloc, row)
+/// Whether the row holds over the quartic extension of residues, whose packing has four lanes.
+pub fn quartics(alloc: Global, row: Row) -> Result<bool, AllocError> {
+    over_residues::<4, QuarticExtension<BabyBear<4>>>(alloc, row)
+}
+
+/// Whether the row holds over the quartic extension of residues, whose packing has one lane.
+pub fn quartics_in_one_lane(alloc: Global, row: polynomials::Row) -> Result<bool, AllocError> {
+    polynomials::holds::<BabyBear<1>, QuarticExtension<BabyBear<1>>>(alloc, row)
 }
 
 /// Whether the row holds over the residues modulo 2^64.
-pub fn words<const W: usize>(alloc: Global, row: slices::Row) -> Result<bool, AllocError> {
-    slices::holds::<WrappingU64<W>>(alloc, row)
+pub fn words(alloc: Global, row: slices::Row) -> Result<bool, AllocError> {
+    slices::holds::<WrappingU64<4>>(alloc, row)
 }
 
 /// Whether second halves of residues have their images in the quartic extension.
 pub fn residues_in_quartics(alloc: Global) -> Result<bool, AllocError> {
-    slices::images::images_agree::<BabyBear<4>, BabyBear<4>, QuarticExtension<BabyBear<4>>>(alloc)
+    slices::images::images_agree::<BabyBear<4>, QuarticExtension<BabyBear<4>>>(alloc)
 }
 
 /// Whether the images of residues in the words are right.
-pub fn residues_in_words<const W: usize>(alloc: Global, row: ImageRow) -> Result<bool, AllocError>
-where
-    Lanes<BabyBear<W>, W>: LaneWidth<W>,
-    Lanes<WrappingU64<W>, W>: LaneWidth<W>,
-{
+pub fn residues_in_words(alloc: Global, row: ImageRow) -> Result<bool, AllocError> {
     match row {
-        ImageRow::Halves => {
-            slices::images::images_agree::<BabyBear<W>, BabyBear<W>, WrappingU64<W>>(alloc)
-        }
+        ImageRow::Halves => slices::images::images_agree::<BabyBear<4>, WrappingU64<4>>(alloc),
         ImageRow::Splits => {
-            let images = [WrappingU64::<W>::new(10066329600), WrappingU64::new(10)];
-            polynomials::splits::has_images::<BabyBear<W>, WrappingU64<W>>(alloc, &images)
+            let images = [WrappingU64::new(10066329600), WrappingU64::new(10)];
+            polynomials::splits::has_images::<BabyBear<4>, WrappingU64<4>>(alloc, &images)
         }
     }
 }

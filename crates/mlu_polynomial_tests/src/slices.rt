@@ -30,21 +30,21 @@ pub fn holds<R: SelfAlgebra + Sample>(alloc: Global, row: Row) -> Result<bool, A
 #[test]
 fn laws_are_called(rt: HostRuntime) -> Result<(), Fail> {
     assert!(rt; residues::<4>(rt.alloc(), Slices(Row::Laws))?);
-    assert!(rt; words::<4>(rt.alloc(), Row::Laws)?);
-    assert!(rt; quartics::<4>(rt.alloc(), Slices(Row::Laws))?);
+    assert!(rt; words(rt.alloc(), Row::Laws)?);
+    assert!(rt; quartics(rt.alloc(), Slices(Row::Laws))?);
     Ok(())
 }
 
 #[test]
 fn folds_of_long_tables(rt: HostRuntime) -> Result<(), Fail> {
     assert!(rt; residues::<4>(rt.alloc(), Slices(Row::FoldsOfLongTables))?);
-    assert!(rt; quartics::<4>(rt.alloc(), Slices(Row::FoldsOfLongTables))?);
+    assert!(rt; quartics(rt.alloc(), Slices(Row::FoldsOfLongTables))?);
     Ok(())
 }
 
 #[test]
 fn images_in_other_rings(rt: HostRuntime) -> Result<(), Fail> {
-    assert!(rt; residues_in_words::<4>(rt.alloc(), ImageRow::Halves)?);
+    assert!(rt; residues_in_words(rt.alloc(), ImageRow::Halves)?);
     assert!(rt; residues_in_quartics(rt.alloc())?);
     Ok(())
 }

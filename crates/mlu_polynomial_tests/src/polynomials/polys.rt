@@ -2,7 +2,7 @@
 
 use super::{FieldRow, Row};
 use crate::rings::Row::{Polynomials, Residues};
-use crate::rings::{quartics, residues};
+use crate::rings::{quartics, quartics_in_one_lane, residues};
 use mlu_ring::{Additive, PrimeCharacteristicRing, Sample};
 use mlu_test_support::numbers::{are, element};
 use mlu_test_tables::table;
@@ -53,8 +53,8 @@ pub fn is_constant<R: PrimeCharacteristicRing>(alloc: Global) -> Result<bool, Al
 
 #[test]
 fn constants(rt: HostRuntime) -> Result<(), Fail> {
-    assert!(rt; quartics::<1>(rt.alloc(), Polynomials(Row::Constants))?);
-    assert!(rt; quartics::<4>(rt.alloc(), Polynomials(Row::Constants))?);
+    assert!(rt; quartics_in_one_lane(rt.alloc(), Row::Constants)?);
+    assert!(rt; quartics(rt.alloc(), Polynomials(Row::Constants))?);
     Ok(())
 }
 

@@ -204,7 +204,7 @@ pub fn has_images<R: ExtensionField<R>, S: ExtensionField<S> + MapFrom<R>>(
 
 #[test]
 fn images_in_words(rt: HostRuntime) -> Result<(), Fail> {
-    assert!(rt; residues_in_words::<4>(rt.alloc(), ImageRow::Splits)?);
+    assert!(rt; residues_in_words(rt.alloc(), ImageRow::Splits)?);
     Ok(())
 }
 

@@ -4,7 +4,7 @@ ghost use Rattle.multilinear_util.specs.Storage.{scalars};
 
 use super::Row;
 use crate::rings::Row::Polynomials;
-use crate::rings::{quartics, residues};
+use crate::rings::{quartics, quartics_in_one_lane, residues};
 use mlu_ring::{ExtensionField, Field, PrimeCharacteristicRing};
 use mlu_test_support::numbers::are;
 use mlu_test_tables::table;
@@ -91,7 +91,7 @@ fn both_storages(rt: HostRuntime) -> Result<(), Fail> {
     assert!(rt; residues::<1>(rt.alloc(), Polynomials(Row::Storages))?);
     assert!(rt; residues::<4>(rt.alloc(), Polynomials(Row::Storages))?);
     assert!(rt; residues::<8>(rt.alloc(), Polynomials(Row::Storages))?);
-    assert!(rt; quartics::<1>(rt.alloc(), Polynomials(Row::Storages))?);
-    assert!(rt; quartics::<4>(rt.alloc(), Polynomials(Row::Storages))?);
+    assert!(rt; quartics_in_one_lane(rt.alloc(), Row::Storages)?);
+    assert!(rt; quartics(rt.alloc(), Polynomials(Row::Storages))?);
     Ok(())
 }

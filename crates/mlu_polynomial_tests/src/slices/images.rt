@@ -4,9 +4,7 @@ ghost use Rattle.std.specs.Int.{is_power_of_two};
 
 use mlu_eq::half::images;
 use mlu_eq::{EqMaybePacked, half, split};
-use mlu_ring::{
-    Additive, ExtensionField, Field, MapFrom, PackedValue, PrimeCharacteristicRing, Sample,
-};
+use mlu_ring::{Additive, ExtensionField, MapFrom, PackedValue, PrimeCharacteristicRing, Sample};
 use mlu_test_support::draws::drawn;
 use mlu_test_support::lanes::packed;
 use mlu_test_support::numbers::elements;
@@ -14,10 +12,10 @@ use rand_pcg::Pcg32;
 use std::alloc::{AllocError, Global};
 
 /// The table of these weights, as scalars.
-fn scalar_half<F: Field, EF: ExtensionField<F>>(
+fn scalar_half<E: ExtensionField<E>>(
     alloc: Global,
-    weights: &[EF],
-) -> Result<EqMaybePacked<F, EF>, AllocError>
+    weights: &[E],
+) -> Result<EqMaybePacked<E, E>, AllocError>
     requires { IsTrue (is_power_of_two (length weights.now)) }
     ensures { IfOk result (λ half. length half.weights ≡ length weights.now) }
 {
@@ -25,17 +23,17 @@ fn scalar_half<F: Field, EF: ExtensionField<F>>(
 }
 
 /// The packed table of these weights, where they fill packings.
-fn packed_half<F: Field, EF: ExtensionField<F>>(
+fn packed_half<E: ExtensionField<E>>(
     alloc: Global,
-    weights: &[EF],
-) -> Result<Option<EqMaybePacked<F, EF>>, AllocError>
+    weights: &[E],
+) -> Result<Option<EqMaybePacked<E, E>>, AllocError>
     ensures { IfOk result (λ half. IfSome half (λ table. length table.weights ≡ length weights.now)) }
 {
-    let groups = weights.len() / F::Packing::WIDTH;
-    if groups * F::Packing::WIDTH != weights.len() || !groups.is_power_of_two() {
+    let groups = weights.len() / E::Packing::WIDTH;
+    if groups * E::Packing::WIDTH != weights.len() || !groups.is_power_of_two() {
         return Ok(None);
     }
-    let packed = packed::<F, EF>(alloc, weights, groups)?;
+    let packed = packed::<E, E>(alloc, weights, groups)?;
     Ok(Some(half::from_packed(packed)))
 }
 
@@ -63,36 +61,36 @@ fn has_weights<R: ExtensionField<R>>(
 }
 
 /// Whether the table in the other ring has the images of the weights, as scalars.
-fn has_images<F: Field, EF: ExtensionField<F>, R: ExtensionField<R> + MapFrom<EF>>(
+fn has_images<E: ExtensionField<E>, R: ExtensionField<R> + MapFrom<E>>(
     alloc: Global,
-    eq1: &EqMaybePacked<F, EF>,
+    eq1: &EqMaybePacked<E, E>,
     images: &[R],
 ) -> Result<bool, AllocError>
     requires { length eq1.now.weights ≡ length images.now }
 {
-    has_weights::<R>(alloc, &half::to_field::<F, EF, R>(alloc, eq1)?, images)
+    has_weights::<R>(alloc, &half::to_field::<E, E, R>(alloc, eq1)?, images)
 }
 
 /// Whether tables of eight drawn weights, scalar and packed, have their images in the other ring.
-pub fn images_agree<F: Field, EF: ExtensionField<F> + Sample, R: ExtensionField<R> + MapFrom<EF>>(
+pub fn images_agree<E: ExtensionField<E> + Sample, R: ExtensionField<R> + MapFrom<E>>(
     alloc: Global,
 ) -> Result<bool, AllocError> {
     let mut rng = Pcg32::new(1, 54);
-    let weights = drawn::<EF>(alloc, &mut rng, 8)?;
+    let weights = drawn::<E>(alloc, &mut rng, 8)?;
     if !weights.len().is_power_of_two() {
         return Ok(false);
     }
-    let scalar = scalar_half::<F, EF>(alloc, &weights)?;
-    let Some(packed) = packed_half::<F, EF>(alloc, &weights)? else {
+    let scalar = scalar_half::<E>(alloc, &weights)?;
+    let Some(packed) = packed_half::<E>(alloc, &weights)? else {
         return Ok(false);
     };
-    let expected = mapped::<EF, R>(alloc, &weights)?;
+    let expected = mapped::<E, R>(alloc, &weights)?;
     if expected.len() != weights.len() {
         return Ok(false);
     }
     Ok(
-        images::<EF, R>(alloc, &weights)? == expected
-            && has_images::<F, EF, R>(alloc, &scalar, &expected)?
-            && has_images::<F, EF, R>(alloc, &packed, &expected)?,
+        images::<E, R>(alloc, &weights)? == expected
+            && has_images::<E, R>(alloc, &scalar, &expected)?
+            && has_images::<E, R>(alloc, &packed, &expected)?,
     )
 }
