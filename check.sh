@@ -17,8 +17,6 @@ places=$(nproc)
 # Proofs at a time in the gate, each in one process: a second process of a proof loads all again what the
 # first has loaded, and more proofs at a time slow each other down. RT_JOBS is read by rt.
 proofs=${RT_JOBS:-2}
-# The milliseconds after which the prover's memory goes back to the system, which it soon takes again.
-export MIMALLOC_PURGE_DELAY=30000
 room=$(mktemp -d)
 trap 'rm -rf "$room"' EXIT
 
