@@ -27,11 +27,13 @@ refuse() {
   fi
 }
 
-# Runs the tests of crate $1, those whose names have $2 where that is given, with allocation 1, 2, .. of
-# each test failing, as many at once as there are processors. Their lines say which calls are then refused
-# and which are served; each must be refused at some allocation, and served in the end.
+# Runs the tests of crate $1 with allocation 1, 2, .. of each test failing, as many at once as there
+# are processors; of mlu_program_tests those of the program alone, as the replay's fail where memory is
+# refused. Their lines say which calls are then refused and which are served; each must be refused at some
+# allocation, and served in the end.
 refusals() {
-  local crate=$1 names=${2:-} first allocation served=
+  local crate=$1 names= first allocation served=
+  [ "$crate" != mlu_program_tests ] || names=command::
   rm -f "$room"/*
   : >"$room/refused"
   for ((first = 1; first <= 32 && !${#served}; first += places)); do
@@ -124,7 +126,7 @@ if [ "${1:-}" = --refusals ]; then
 fi
 
 refusals mlu_refusals
-refusals mlu_program_tests command::
+refusals mlu_program_tests
 faulty 2 'mlu: length' -- eval 1,2,3 2
 faulty 2 'mlu: usage' -- sumcheck 3,4 2 5 6
 faulty 3 'mlu: memory' --fail-alloc 1 -- eval 1,2,3,4 2,3
