@@ -20,13 +20,11 @@ pub part_within : (c e k v : ℕ) → c ≡ 2 ^ k → e ≡ 2 ^ v → k ≤ v �
 part_within c e k v part size le = subst (λ m. c ≤ m) (sym size) (grown c k v part le)
 
 -- nor is it where each of its entries counts as often as there are lanes, which stand for other variables
-pub part_with_lanes : (c e w k v l left : ℕ) → c ≡ 2 ^ k → e ≡ 2 ^ v → w ≡ 2 ^ l → v ≡ left + l → k ≤ left → c * w ≤ e
-part_with_lanes c e w k v l left part size width rest le =
-    let product : c * w ≡ 2 ^ (k + l) = ap (λ m. m * w) part ∙ ap (λ m. 2 ^ k * m) width ∙ sym (pow-add 2 k l) in
-    part_within (c * w) e (k + l) v product size (omega (arith, rest, le))
+pub part_with_lanes : (w k v l left : ℕ) → w ≡ 2 ^ l → v ≡ left + l → k ≤ left → 2 ^ k * w ≤ 2 ^ v
+part_with_lanes w k v l left width rest le =
+    let product : 2 ^ k * w ≡ 2 ^ (k + l) = ap (λ m. 2 ^ k * m) width ∙ sym (pow-add 2 k l) in
+    subst (λ n. n ≤ 2 ^ v) (sym product) (power_within (k + l) v (omega (arith, rest, le)))
 
 -- a table is as large as two whose variables together are as many
-pub product_of_parts : (e out c v m k : ℕ) → e ≡ 2 ^ v → out ≡ 2 ^ m → c ≡ 2 ^ k → v ≡ k + m → e ≡ out * c
-product_of_parts e out c v m k size is0 is1 sum =
-    let turned : v ≡ m + k = omega (arith, sum) in
-    size ∙ ap (λ j. 2 ^ j) turned ∙ pow-add 2 m k ∙ ap (λ a. a * 2 ^ k) (sym is0) ∙ ap (λ b. out * b) (sym is1)
+pub product_of_parts : (v m k : ℕ) → v ≡ m + k → 2 ^ v ≡ 2 ^ m * 2 ^ k
+product_of_parts v m k sum = ap (λ j. 2 ^ j) sum ∙ pow-add 2 m k

@@ -1,5 +1,5 @@
 //! Tests of what calls ask of the sizes of their operands.
-ghost use Rattle.std.specs.Prelude.{◌≡◌, ◌+◌, ◌*◌, ◌^◌, length, IfOk, IsTrue};
+ghost use Rattle.std.specs.Prelude.{◌≡◌, ◌+◌, ◌*◌, ◌^◌, ◌≤◌, length, IfOk, IsOk, IsTrue};
 ghost use Rattle.mlu_ring.specs.Lanes.{logical};
 
 use mlu_replay_lines::fault::{Fault, Reason};
@@ -14,24 +14,43 @@ pub fn has_variables(entries: usize, variables: usize) -> bool
     entries.is_power_of_two() && log2_strict_usize(entries) == variables
 }
 
-/// How many variables are left without some of them.
+/// Tests that a table of so many variables is as large as two others together.
 ///
 /// # Errors
-/// Where there are not so many.
-pub fn variables_left(variables: usize, taken: usize) -> Result<usize, Reason>
-    ensures { IfOk result (λ left. variables ≡ left + taken) }
+/// Where it has not as many variables as both.
+#[tactic(auto, using(crate::proofs::Powers::product_of_parts))]
+pub fn test_parts(variables: usize, first: usize, second: usize) -> Result<(), Reason>
+    ensures { IsOk result → 2 ^ variables ≡ 2 ^ first * 2 ^ second }
 {
-    variables.checked_sub(taken).ok_or(Reason::Size)
+    if first.checked_add(second) != Some(variables) {
+        return Err(Reason::Size);
+    }
+    Ok(())
 }
 
 /// How many variables are left where the last ones are lanes.
 ///
 /// # Errors
 /// Where there are fewer than `log2(W)`.
-pub fn variables_over_lanes<F: Field>(variables: usize) -> Result<usize, Reason>
+fn variables_over_lanes<F: Field>(variables: usize) -> Result<usize, Reason>
     ensures { IfOk result (λ left. variables ≡ left + F.Packing.LOG_WIDTH) }
 {
-    variables_left(variables, <F::Packing as PackedValue>::LOG_WIDTH)
+    let lanes = <F::Packing as PackedValue>::LOG_WIDTH;
+    variables.checked_sub(lanes).ok_or(Reason::Size)
+}
+
+/// Tests that a table of so many variables has a packing for each entry of a table of `part` variables.
+///
+/// # Errors
+/// Where it has fewer variables than the part and `log2(W)` more.
+pub fn test_lanes<F: Field>(variables: usize, part: usize) -> Result<(), Reason>
+    ensures { IsOk result → 2 ^ part * F.Packing.WIDTH ≤ 2 ^ variables }
+{
+    let left = variables_over_lanes::<F>(variables)?;
+    if part > left {
+        return Err(Reason::Size);
+    }
+    Ok(())
 }
 
 /// The table in packed form.

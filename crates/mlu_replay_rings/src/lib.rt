@@ -126,7 +126,7 @@ where
         let (alloc, most) = (words.alloc(), words.number()?);
         return found(alloc, sweep::<BabyBear<W>, EF>(alloc, most));
     }
-    mixed::<BabyBear<W>, EF>(op, words)
+    mixed::answer::<BabyBear<W>, EF>(op, words)
 }
 
 /// Over the residues modulo a prime, with quartics over them.

@@ -1,6 +1,6 @@
 use Rattle.std.proofs.Common.{◌^◌, ◌<◌, sym, subst}
 use Rattle.mlu_replay_calls.proofs.Images.{length-contents-images}
-use Rattle.mlu_replay_calls.proofs.ops.splits.to_field.Goals as goal
+use Rattle.mlu_replay_calls.proofs.ops.extended.to_field.Goals as goal
 
 pub materialize-requires : goal.materialize-requires
 materialize-requires g c =

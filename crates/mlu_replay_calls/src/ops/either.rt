@@ -1,0 +1,49 @@
+//! Calls on operands in a ring and in an extension of it, which may be the ring itself.
+
+use crate::element::Element;
+use crate::lines::{table_word, word};
+use crate::ops::one_ring;
+use crate::words::Words;
+use mlu_replay_lines::fault::{Fault, Reason};
+use mlu_ring::{ExtensionField, Field, SelfAlgebra};
+use multilinear_util::point::Point;
+
+/// Such a call, or one over the extension alone.
+pub fn answer<F: Field + Element, EF: ExtensionField<F> + SelfAlgebra + Element>(
+    op: &str,
+    words: &mut Words<'_>,
+) -> Result<String, Fault> {
+    let alloc = words.alloc();
+    match op {
+        "eval_eq" => {
+            let p = words.list::<F>()?;
+            let q = words.list::<EF>()?;
+            if p.len() != q.len() {
+                return Err(Fault::Unknown(Reason::Size));
+            }
+            word(alloc, Point::eval_eq(&p, &q))
+        }
+        "eval_select" => {
+            let var = words.element::<F>()?;
+            let point = words.list::<EF>()?;
+            word(alloc, Point::eval_select(var, &point))
+        }
+        "fix_prefix_var" => {
+            let (table, r) = words.larger_table_and_element::<F, EF>()?;
+            table_word(alloc, table.fix_prefix_var(alloc, r))
+        }
+        "fix_suffix_var" => {
+            let (table, r) = words.larger_table_and_element::<F, EF>()?;
+            table_word(alloc, table.fix_suffix_var(alloc, r))
+        }
+        "fix_prefix_var_at" => {
+            let (table, r) = words.table_and_element::<F, EF>()?;
+            let index = words.number()?;
+            if index >= table.num_evals() / 2 {
+                return Err(Fault::Unknown(Reason::Size));
+            }
+            word(alloc, table.fix_prefix_var_at(r, index))
+        }
+        _ => one_ring::answer::<EF>(op, words),
+    }
+}

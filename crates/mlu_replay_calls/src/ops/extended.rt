@@ -1,0 +1,156 @@
+//! Calls on operands in an extension, over the packed form that its base field gives.
+
+use crate::element::Element;
+use crate::lines::{list_word, packed_word, table_word, value_word, word};
+use crate::ops::{batches, one_ring};
+use crate::sizes::pack;
+use crate::words::Words;
+use mlu_replay_lines::fault::{Fault, Reason};
+use mlu_ring::{ExtensionField, Field, MapFrom, PackedValue};
+use multilinear_util::poly::{Poly, PolyMaybePacked};
+
+/// A call on a polynomial, or one of the next table.
+pub fn answer<
+    F: Field + Element,
+    EF: ExtensionField<F> + ExtensionField<EF> + MapFrom<EF> + Element,
+>(op: &str, words: &mut Words<'_>) -> Result<String, Fault> {
+    let alloc = words.alloc();
+    match op {
+        "eval_ext" => {
+            let (table, point) = words.table_and_point::<EF, EF>()?;
+            value_word(alloc, table.eval_ext::<F>(alloc, &point))
+        }
+        "eval_packed" => {
+            let (table, point) = words.table_and_point::<EF, EF>()?;
+            let packed = pack::<F, EF>(alloc, &table)?;
+            value_word(alloc, packed.eval_packed::<F, EF>(alloc, &point))
+        }
+        "pack_unpack" => {
+            let table = words.table::<EF>()?;
+            let packed = pack::<F, EF>(alloc, &table)?;
+            table_word(alloc, packed.unpack::<F, EF>(alloc))
+        }
+        "maybe_packed.eval" => maybe_packed_eval::<F, EF>(words),
+        "new_packed_from_point" => new_packed_from_point::<F, EF>(words),
+        "fix_prefix_var_mut.base" => one_ring::fix_prefix_var_mut::<F, EF>(words),
+        "eq_batch" => batches::eq_batch::<F, EF>(words),
+        "split.to_field" => to_field::<F, EF>(words),
+        _ => of_split::<F, EF>(op, words),
+    }
+}
+
+/// A call that reads a split table, or one of the next table.
+fn of_split<F: Field, EF: ExtensionField<F> + Element>(
+    op: &str,
+    words: &mut Words<'_>,
+) -> Result<String, Fault> {
+    let alloc = words.alloc();
+    match op {
+        "split.eval_ext" => {
+            let (table, split) = words.table_and_split::<EF, F, EF>()?;
+            word(alloc, split.eval_ext(table.as_view()))
+        }
+        "split.eval_packed" => {
+            let (table, split) = words.table_and_split::<EF, F, EF>()?;
+            let packed = pack::<F, EF>(alloc, &table)?;
+            value_word(alloc, split.eval_packed(alloc, packed.as_view()))
+        }
+        "split.materialize" => {
+            let split = words.stored_split::<F, EF>()?;
+            table_word(alloc, split.materialize(alloc))
+        }
+        "split.eq0" => {
+            let split = words.stored_split::<F, EF>()?;
+            list_word(alloc, split.eq0().as_slice())
+        }
+        "split.last_scalar" => {
+            let split = words.stored_split::<F, EF>()?;
+            word(alloc, split.last_scalar())
+        }
+        "split.eq1_last_scalar" => {
+            let is_packed = words.is_packed()?;
+            let split = words.unscaled_split::<F, EF>(is_packed)?;
+            word(alloc, split.eq1().last_scalar())
+        }
+        _ => accumulated::<F, EF>(op, words),
+    }
+}
+
+/// A call that adds a split table, or the step to the next row of its second half, to an output.
+fn accumulated<F: Field, EF: ExtensionField<F> + Element>(
+    op: &str,
+    words: &mut Words<'_>,
+) -> Result<String, Fault> {
+    match op {
+        "split.accumulate_into" => {
+            let (mut out, split) = words.table_and_split::<EF, F, EF>()?;
+            let scale = words.scale::<EF>()?;
+            split.accumulate_into(out.as_mut_slice(), scale);
+            list_word(words.alloc(), out.as_slice())
+        }
+        "split.accumulate_into_packed" => {
+            let (out, split) = words.table_and_split::<EF, F, EF>()?;
+            let scale = words.scale::<EF>()?;
+            let mut packed = pack::<F, EF>(words.alloc(), &out)?;
+            split.accumulate_into_packed(words.alloc(), packed.as_mut_slice(), scale)?;
+            table_word(words.alloc(), packed.unpack::<F, EF>(words.alloc()))
+        }
+        "split.accumulate_next_chunk_into" => accumulate_next_chunk_into::<F, EF>(words),
+        _ => Err(Fault::Unknown(Reason::Op)),
+    }
+}
+
+/// `maybe_packed.eval`: the storage, a table and a point.
+fn maybe_packed_eval<F: Field, EF: ExtensionField<F> + Element>(
+    words: &mut Words<'_>,
+) -> Result<String, Fault> {
+    let is_packed = words.is_packed()?;
+    let (table, point) = words.table_and_point::<EF, EF>()?;
+    let stored = if is_packed {
+        PolyMaybePacked::<F, EF>::Packed(pack::<F, EF>(words.alloc(), &table)?)
+    } else {
+        PolyMaybePacked::Scalar(table)
+    };
+    value_word(words.alloc(), stored.eval(words.alloc(), &point))
+}
+
+/// `new_packed_from_point`: a point and a scale.
+fn new_packed_from_point<F: Field, EF: ExtensionField<F> + Element>(
+    words: &mut Words<'_>,
+) -> Result<String, Fault> {
+    let point = words.short_point::<EF>()?;
+    let scale = words.element::<EF>()?;
+    if point.num_variables() < <F::Packing as PackedValue>::LOG_WIDTH {
+        return Err(Fault::Unknown(Reason::Size));
+    }
+    let packed = Poly::new_packed_from_point::<F, EF>(words.alloc(), point.as_slice(), scale);
+    packed_word::<F, EF>(words.alloc(), packed)
+}
+
+/// `split.to_field` by the identity, and then `materialize`: the storage, a point and a scale.
+fn to_field<F: Field, EF: ExtensionField<F> + ExtensionField<EF> + MapFrom<EF> + Element>(
+    words: &mut Words<'_>,
+) -> Result<String, Fault> {
+    let split = words.stored_split::<F, EF>()?;
+    let images = split.to_field::<EF>(words.alloc())?;
+    table_word(words.alloc(), images.materialize(words.alloc()))
+}
+
+/// `split.accumulate_next_chunk_into`: the storage, the output, a point, the two weights and the
+/// boundary.
+fn accumulate_next_chunk_into<F: Field, EF: ExtensionField<F> + Element>(
+    words: &mut Words<'_>,
+) -> Result<String, Fault> {
+    let is_packed = words.is_packed()?;
+    let mut out = words.table::<EF>()?;
+    let split = words.unscaled_split::<F, EF>(is_packed)?;
+    let eq_weight = words.element::<EF>()?;
+    let shifted_weight = words.element::<EF>()?;
+    let boundary = words.element::<EF>()?;
+    let eq1 = split.eq1();
+    if out.num_variables() != eq1.num_variables() {
+        return Err(Fault::Unknown(Reason::Size));
+    }
+    eq1.accumulate_next_chunk_into(out.as_mut_slice(), eq_weight, shifted_weight, boundary);
+    list_word(words.alloc(), out.as_slice())
+}

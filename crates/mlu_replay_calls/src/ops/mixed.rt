@@ -1,0 +1,124 @@
+//! Calls on tables in a base field, with points and scales in its extension.
+
+use crate::element::Element;
+use crate::lines::{list_word, packed_word, table_word, value_word, word};
+use crate::ops::{batches, either};
+use crate::sizes::{test_lanes, test_parts};
+use crate::words::Words;
+use mlu_replay_lines::fault::{Fault, Reason};
+use mlu_ring::{ExtensionField, Field, PackedValue, SelfAlgebra};
+
+/// A call on a polynomial, or one of the next table.
+pub fn answer<F: Field + Element, EF: ExtensionField<F> + SelfAlgebra + Element>(
+    op: &str,
+    words: &mut Words<'_>,
+) -> Result<String, Fault> {
+    let alloc = words.alloc();
+    match op {
+        "eval_base" => {
+            let (table, point) = words.table_and_point::<F, EF>()?;
+            value_word(alloc, table.eval_base(alloc, &point))
+        }
+        "eval_next_base" => {
+            let (table, point) = words.table_and_point::<F, EF>()?;
+            value_word(alloc, table.eval_next_base(alloc, &point))
+        }
+        "compress_prefix" => {
+            let (table, point, scale) = words.table_part_and_scale::<F, EF>()?;
+            table_word(alloc, table.compress_prefix(alloc, &point, scale))
+        }
+        "compress_suffix" => {
+            let (table, point, scale) = words.table_part_and_scale::<F, EF>()?;
+            table_word(alloc, table.compress_suffix(alloc, &point, scale))
+        }
+        "compress_prefix_to_packed" => compress_prefix_to_packed::<F, EF>(words),
+        "fix_prefix_var_to_packed" => fix_prefix_var_to_packed::<F, EF>(words),
+        "eq_base_batch" => batches::eq_base_batch::<F, EF>(words),
+        _ => of_split::<F, EF>(op, words),
+    }
+}
+
+/// A call of a split table, or one on operands in a ring and in an extension of it.
+fn of_split<F: Field + Element, EF: ExtensionField<F> + SelfAlgebra + Element>(
+    op: &str,
+    words: &mut Words<'_>,
+) -> Result<String, Fault> {
+    let alloc = words.alloc();
+    match op {
+        "split.eval_base" => {
+            let (table, split) = words.table_and_split::<F, F, EF>()?;
+            word(alloc, split.eval_base(table.as_view()))
+        }
+        "split.eval_next_base" => {
+            let (table, split) = words.table_and_split::<F, F, EF>()?;
+            word(alloc, split.eval_next_base(table.as_view()))
+        }
+        "split.compress_prefix" => {
+            let (table, split) = words.table_and_smaller_split::<F, EF>()?;
+            table_word(alloc, split.compress_prefix(alloc, table.as_view()))
+        }
+        "split.compress_suffix" => {
+            let (table, split) = words.table_and_smaller_split::<F, EF>()?;
+            table_word(alloc, split.compress_suffix(alloc, table.as_view()))
+        }
+        "split.compress_prefix_shifted" => {
+            let (table, split) = words.table_and_smaller_split::<F, EF>()?;
+            table_word(alloc, split.compress_prefix_shifted(alloc, table.as_view()))
+        }
+        "split.compress_suffix_shifted" => {
+            let (table, split) = words.table_and_smaller_split::<F, EF>()?;
+            table_word(alloc, split.compress_suffix_shifted(alloc, table.as_view()))
+        }
+        "split.compress_prefix_to_packed" => split_compress_prefix_to_packed::<F, EF>(words),
+        "split.compress_suffix_into" => split_compress_suffix_into::<F, EF>(words),
+        _ => either::answer::<F, EF>(op, words),
+    }
+}
+
+/// `fix_prefix_var_to_packed`: a table and an element.
+fn fix_prefix_var_to_packed<F: Field + Element, EF: ExtensionField<F> + Element>(
+    words: &mut Words<'_>,
+) -> Result<String, Fault> {
+    let (table, r) = words.table_and_element::<F, EF>()?;
+    if table.num_evals() <= <F::Packing as PackedValue>::WIDTH {
+        return Err(Fault::Unknown(Reason::Size));
+    }
+    let folded = table.fix_prefix_var_to_packed(words.alloc(), r);
+    packed_word::<F, EF>(words.alloc(), folded)
+}
+
+/// `compress_prefix_to_packed`: a table, a point and a scale.
+fn compress_prefix_to_packed<F: Field + Element, EF: ExtensionField<F> + Element>(
+    words: &mut Words<'_>,
+) -> Result<String, Fault> {
+    let (table, point, scale) = words.table_part_and_scale::<F, EF>()?;
+    test_lanes::<F>(table.num_variables(), point.num_variables())?;
+    let compressed = table.compress_prefix_to_packed(words.alloc(), &point, scale);
+    packed_word::<F, EF>(words.alloc(), compressed)
+}
+
+/// `split.compress_prefix_to_packed`: the storage, a table, a point and a scale.
+fn split_compress_prefix_to_packed<F: Field + Element, EF: ExtensionField<F> + Element>(
+    words: &mut Words<'_>,
+) -> Result<String, Fault> {
+    let is_packed = words.is_packed()?;
+    let table = words.table::<F>()?;
+    let split = words.split::<F, EF>(is_packed)?;
+    test_lanes::<F>(table.num_variables(), split.num_variables())?;
+    let compressed = split.compress_prefix_to_packed(words.alloc(), table.as_view());
+    packed_word::<F, EF>(words.alloc(), compressed)
+}
+
+/// `split.compress_suffix_into`: the storage, the output, a table, a point and a scale.
+fn split_compress_suffix_into<F: Field + Element, EF: ExtensionField<F> + Element>(
+    words: &mut Words<'_>,
+) -> Result<String, Fault> {
+    let is_packed = words.is_packed()?;
+    let mut out = words.table::<EF>()?;
+    let table = words.table::<F>()?;
+    let split = words.split::<F, EF>(is_packed)?;
+    let (entries, places) = (table.num_variables(), out.num_variables());
+    test_parts(entries, places, split.num_variables())?;
+    split.compress_suffix_into(out.as_mut_slice(), table.as_view());
+    list_word(words.alloc(), out.as_slice())
+}

@@ -1,0 +1,170 @@
+//! Calls over one ring.
+
+use crate::element::Element;
+use crate::lines::{list_word, table_word, word};
+use crate::operands::MOST_VARIABLES;
+use crate::ops::batches;
+use crate::words::Words;
+use mlu_replay_lines::fault::{Fault, Reason};
+use mlu_ring::{Algebra, Field, PrimeCharacteristicRing, SelfAlgebra};
+use multilinear_util::point::Point;
+use multilinear_util::poly::Poly;
+
+/// The most coordinates of a point that is made of a number.
+const MOST_COORDINATES: usize = 1 << 24;
+
+/// A call on points, or one of the next tables.
+pub fn answer<F: Field + SelfAlgebra + Element>(
+    op: &str,
+    words: &mut Words<'_>,
+) -> Result<String, Fault> {
+    let alloc = words.alloc();
+    match op {
+        "msb" => {
+            let point = words.short_point::<F>()?;
+            let weights = point.equality_weights_msb(alloc)?;
+            list_word(alloc, &weights)
+        }
+        "lsb" => {
+            let point = words.short_point::<F>()?;
+            let weights = point.equality_weights_lsb(alloc)?;
+            list_word(alloc, &weights)
+        }
+        "reversed" => {
+            let point = words.point::<F>()?;
+            let reversed = point.reversed(alloc)?;
+            list_word(alloc, reversed.as_slice())
+        }
+        "equality_at_vertex" => equality_at_vertex::<F>(words),
+        "hypercube" => hypercube::<F>(words),
+        "expand_from_univariate" => expand_from_univariate::<F>(words),
+        "eval_next" => eval_next::<F>(words),
+        "transpose" => batches::transpose::<F>(words),
+        _ => of_table::<F>(op, words),
+    }
+}
+
+/// A call that makes or grows a table, or one that folds it.
+fn of_table<F: SelfAlgebra + Element>(op: &str, words: &mut Words<'_>) -> Result<String, Fault> {
+    let alloc = words.alloc();
+    match op {
+        "new_from_point" => {
+            let point = words.short_point::<F>()?;
+            let scale = words.element::<F>()?;
+            let table = Poly::new_from_point(alloc, point.as_slice(), scale);
+            table_word(alloc, table)
+        }
+        "new_next_from_point" => {
+            let point = words.short_point::<F>()?;
+            let table = Poly::new_next_from_point(alloc, point.as_slice());
+            table_word(alloc, table)
+        }
+        "pad_zeros" => pad_zeros::<F>(words),
+        "fix_prefix_var_mut" => fix_prefix_var_mut::<F, F>(words),
+        _ => folded_in_place::<F>(op, words),
+    }
+}
+
+/// A call that leaves half of a table in its place.
+fn folded_in_place<F: SelfAlgebra + Element>(
+    op: &str,
+    words: &mut Words<'_>,
+) -> Result<String, Fault> {
+    let alloc = words.alloc();
+    match op {
+        "fix_suffix_var_mut" => {
+            let (mut table, r) = words.larger_table_and_element::<F, F>()?;
+            table.fix_suffix_var_mut(r);
+            list_word(alloc, table.as_slice())
+        }
+        "fix_prefix_var_mut_monomial" => {
+            let (mut table, r) = words.larger_table_and_element::<F, F>()?;
+            table.fix_prefix_var_mut_monomial(r);
+            list_word(alloc, table.as_slice())
+        }
+        "sum_prefix_var_mut" => {
+            let mut table = words.table::<F>()?;
+            table.sum_prefix_var_mut();
+            list_word(alloc, table.as_slice())
+        }
+        "truncate_to_half" => {
+            let mut table = words.larger_table::<F>()?;
+            table.truncate_to_half();
+            list_word(alloc, table.as_slice())
+        }
+        _ => Err(Fault::Unknown(Reason::Op)),
+    }
+}
+
+/// `fix_prefix_var_mut`: a table and an element of its ring or of a base of it.
+pub fn fix_prefix_var_mut<R: Element, F: PrimeCharacteristicRing + Algebra<R> + Element>(
+    words: &mut Words<'_>,
+) -> Result<String, Fault> {
+    let (mut table, r) = words.larger_table_and_element::<F, R>()?;
+    table.fix_prefix_var_mut(r);
+    list_word(words.alloc(), table.as_slice())
+}
+
+/// `pad_zeros`: a table and the number of variables.
+fn pad_zeros<F: PrimeCharacteristicRing + Element>(words: &mut Words<'_>) -> Result<String, Fault> {
+    let mut table = words.table::<F>()?;
+    let variables = words.number()?;
+    if variables > MOST_VARIABLES {
+        return Err(Fault::Unknown(Reason::Large));
+    }
+    if variables < table.num_variables() {
+        return Err(Fault::Unknown(Reason::Size));
+    }
+    table.pad_zeros(variables)?;
+    list_word(words.alloc(), table.as_slice())
+}
+
+/// `equality_at_vertex`: a point and a vertex.
+fn equality_at_vertex<F: Field + Element>(words: &mut Words<'_>) -> Result<String, Fault> {
+    let point = words.point::<F>()?;
+    let vertex = words.number()?;
+    match point.equality_at_vertex(vertex) {
+        Some(weight) => word(words.alloc(), weight),
+        None => Ok(String::from_str(words.alloc(), "none")?),
+    }
+}
+
+/// `hypercube`: a vertex and the number of coordinates.
+fn hypercube<F: Field + Element>(words: &mut Words<'_>) -> Result<String, Fault> {
+    let vertex = words.number()?;
+    let variables = words.number()?;
+    if variables > MOST_COORDINATES {
+        return Err(Fault::Unknown(Reason::Large));
+    }
+    if variables < usize::BITS as usize && vertex >> variables != 0 {
+        return Err(Fault::Unknown(Reason::Size));
+    }
+    let point = Point::<F>::hypercube(words.alloc(), vertex, variables)?;
+    list_word(words.alloc(), point.as_slice())
+}
+
+/// `expand_from_univariate`: an element and the number of coordinates.
+fn expand_from_univariate<F: Field + Element>(words: &mut Words<'_>) -> Result<String, Fault> {
+    let y = words.element::<F>()?;
+    let variables = words.number()?;
+    if variables > MOST_COORDINATES {
+        return Err(Fault::Unknown(Reason::Large));
+    }
+    let point = Point::expand_from_univariate(words.alloc(), y, variables)?;
+    list_word(words.alloc(), point.as_slice())
+}
+
+/// `eval_next`: two points. Answers carry, done and last.
+fn eval_next<F: Field + Element>(words: &mut Words<'_>) -> Result<String, Fault> {
+    let point = words.list::<F>()?;
+    let row = words.list::<F>()?;
+    if point.len() != row.len() {
+        return Err(Fault::Unknown(Reason::Size));
+    }
+    let (carry, done, last) = Point::eval_next(&point, &row);
+    let mut steps = Vec::with_capacity(words.alloc(), 3)?;
+    for step in [carry, done, last] {
+        steps.push(step).map_err(|_| Fault::Memory)?;
+    }
+    list_word(words.alloc(), &steps)
+}
