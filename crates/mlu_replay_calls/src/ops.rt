@@ -1,6 +1,6 @@
 //! The calls by their names, in the groups of docs/REPLAY.md. Each is written once, over any rings and any width.
 //!
-//! A table of calls hands on what it does not have. Each call fails where an operand is missing, stands for
+//! A function hands on the calls that it does not have. Each call fails where an operand is missing, stands for
 //! nothing of its kind or has a size that the call does not accept, and where memory is refused.
 
 mod batches;
@@ -14,7 +14,7 @@ use crate::words::Words;
 use mlu_replay_lines::fault::{Fault, Reason};
 use mlu_ring::{ExtensionField, Field, MapFrom, SelfAlgebra};
 
-/// Whether the tables of calls do not have the call.
+/// Whether no function that was asked has the call.
 fn is_missing(answer: &Result<String, Fault>) -> bool {
     matches!(answer, Err(Fault::Unknown(Reason::Op)))
 }

@@ -8,7 +8,7 @@ use mlu_replay_lines::fault::{Fault, Reason};
 use mlu_ring::{ExtensionField, Field, SelfAlgebra};
 use multilinear_util::point::Point;
 
-/// Such a call, or one over the extension alone.
+/// These calls; the others are handed on to those over the extension alone.
 pub fn answer<F: Field + Element, EF: ExtensionField<F> + SelfAlgebra + Element>(
     op: &str,
     words: &mut Words<'_>,

@@ -9,7 +9,7 @@ use mlu_replay_lines::fault::{Fault, Reason};
 use mlu_ring::{ExtensionField, Field, MapFrom, PackedValue};
 use multilinear_util::poly::{Poly, PolyMaybePacked};
 
-/// A call on a polynomial, or one of the next table.
+/// The calls on polynomials; the others are handed on.
 pub fn answer<
     F: Field + Element,
     EF: ExtensionField<F> + ExtensionField<EF> + MapFrom<EF> + Element,
@@ -39,7 +39,7 @@ pub fn answer<
     }
 }
 
-/// A call that reads a split table, or one of the next table.
+/// The calls that read a split table; the others are handed on.
 fn of_split<F: Field, EF: ExtensionField<F> + Element>(
     op: &str,
     words: &mut Words<'_>,
@@ -76,7 +76,7 @@ fn of_split<F: Field, EF: ExtensionField<F> + Element>(
     }
 }
 
-/// A call that adds a split table, or the step to the next row of its second half, to an output.
+/// The calls that add a split table, or the step to the next row of its second half, to an output.
 fn accumulated<F: Field, EF: ExtensionField<F> + Element>(
     op: &str,
     words: &mut Words<'_>,

@@ -8,7 +8,7 @@ use crate::words::Words;
 use mlu_replay_lines::fault::{Fault, Reason};
 use mlu_ring::{ExtensionField, Field, PackedValue, SelfAlgebra};
 
-/// A call on a polynomial, or one of the next table.
+/// The calls on polynomials; the others are handed on.
 pub fn answer<F: Field + Element, EF: ExtensionField<F> + SelfAlgebra + Element>(
     op: &str,
     words: &mut Words<'_>,
@@ -38,7 +38,7 @@ pub fn answer<F: Field + Element, EF: ExtensionField<F> + SelfAlgebra + Element>
     }
 }
 
-/// A call of a split table, or one on operands in a ring and in an extension of it.
+/// The calls of split tables; the others are handed on.
 fn of_split<F: Field + Element, EF: ExtensionField<F> + SelfAlgebra + Element>(
     op: &str,
     words: &mut Words<'_>,
@@ -117,8 +117,11 @@ fn split_compress_suffix_into<F: Field + Element, EF: ExtensionField<F> + Elemen
     let mut out = words.table::<EF>()?;
     let table = words.table::<F>()?;
     let split = words.split::<F, EF>(is_packed)?;
-    let (entries, places) = (table.num_variables(), out.num_variables());
-    test_parts(entries, places, split.num_variables())?;
+    test_parts(
+        table.num_variables(),
+        out.num_variables(),
+        split.num_variables(),
+    )?;
     split.compress_suffix_into(out.as_mut_slice(), table.as_view());
     list_word(words.alloc(), out.as_slice())
 }

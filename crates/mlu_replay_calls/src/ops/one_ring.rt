@@ -13,7 +13,7 @@ use multilinear_util::poly::Poly;
 /// The most coordinates of a point that is made of a number.
 const MOST_COORDINATES: usize = 1 << 24;
 
-/// A call on points, or one of the next tables.
+/// The calls on points; the others are handed on.
 pub fn answer<F: Field + SelfAlgebra + Element>(
     op: &str,
     words: &mut Words<'_>,
@@ -44,7 +44,7 @@ pub fn answer<F: Field + SelfAlgebra + Element>(
     }
 }
 
-/// A call that makes or grows a table, or one that folds it.
+/// The calls that make or grow a table; the others are handed on.
 fn of_table<F: SelfAlgebra + Element>(op: &str, words: &mut Words<'_>) -> Result<String, Fault> {
     let alloc = words.alloc();
     match op {
@@ -65,7 +65,7 @@ fn of_table<F: SelfAlgebra + Element>(op: &str, words: &mut Words<'_>) -> Result
     }
 }
 
-/// A call that leaves half of a table in its place.
+/// The calls that leave half of a table in its place.
 fn folded_in_place<F: SelfAlgebra + Element>(
     op: &str,
     words: &mut Words<'_>,
