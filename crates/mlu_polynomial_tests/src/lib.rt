@@ -10,6 +10,8 @@ mod examples;
 #[cfg(test)]
 mod polynomials;
 #[cfg(test)]
+mod printed;
+#[cfg(test)]
 mod rings;
 #[cfg(test)]
 mod slices;

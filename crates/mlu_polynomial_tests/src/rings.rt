@@ -1,91 +1,80 @@
-//! The rings that rows are tried at, a function for each ring.
+//! The rings that rows are tried at, a function for each ring, in packings of four lanes.
 //!
 //! A function that calls generic code at a ring pays for every implementation that the ring stands on; a call of one
 //! of these pays for none.
-ghost use Rattle.std.specs.Prelude.{◌*◌, ◌<◌, ◌≤◌, ◌^◌};
-ghost use Rattle.std.specs.Mem.{type_size};
+ghost use Rattle.std.specs.Prelude.{◌<◌, length};
 
 use crate::{polynomials, slices, sumcheck};
 use mlu_ext::QuarticExtension;
-use mlu_lanes::{BabyBear, LaneWidth, Lanes, WrappingU64};
-use mlu_ring::{ExtensionField, Sample, SelfAlgebra};
+use mlu_lanes::{BabyBear, WrappingU64};
+use mlu_test_support::numbers::elements;
 use std::alloc::{AllocError, Global};
 
-/// What is tried over an extension of residues.
+/// The residues modulo a prime.
+type Residue = BabyBear<4>;
+
+/// Their extension of degree four.
+type Quartic = QuarticExtension<Residue>;
+
+/// The residues modulo 2^64.
+pub type Word = WrappingU64<4>;
+
+/// What is tried over residues, and over their quartic extension.
 pub enum Row {
+    Constants,
+    /// Over the residues alone.
     Polynomials(polynomials::Row),
-    /// Over the residues as an extension of themselves alone.
-    Residues(polynomials::FieldRow),
     /// What is printed of second halves, over the residues alone.
     SecondHalves,
     Slices(slices::Row),
     Sumcheck(sumcheck::Row),
 }
 
-/// Images in another ring: of second halves, and of split tables.
-pub enum ImageRow {
-    Halves,
-    Splits,
-}
-
-/// Whether the row holds over an extension of residues.
-fn over_residues<const W: usize, EF: ExtensionField<BabyBear<W>> + SelfAlgebra + Sample>(
-    alloc: Global,
-    row: Row,
-) -> Result<bool, AllocError>
-where
-    Lanes<BabyBear<W>, W>: LaneWidth<W>,
-    requires width { W ≤ 16 }
-    requires two_rounds_fit { 6 * type_size EF.row < 2 ^ 63 }
-{
+/// Whether the row holds over the residues modulo a prime.
+pub fn residues(alloc: Global, row: Row) -> Result<bool, AllocError> {
     match row {
-        Row::Polynomials(row) => polynomials::holds::<BabyBear<W>, EF>(alloc, row),
-        Row::Residues(_) | Row::SecondHalves => Ok(false),
-        Row::Slices(row) => slices::holds::<EF>(alloc, row),
-        Row::Sumcheck(row) => sumcheck::holds::<BabyBear<W>, EF>(alloc, row),
+        Row::Constants => polynomials::polys::is_constant::<Residue>(alloc),
+        Row::Polynomials(row) => polynomials::holds::<Residue>(alloc, row),
+        Row::SecondHalves => slices::texts::prints::<Residue>(alloc),
+        Row::Slices(row) => slices::holds::<Residue>(alloc, row),
+        Row::Sumcheck(row) => sumcheck::holds::<Residue, Residue>(alloc, row),
     }
 }
 
-/// Whether the row holds over the residues modulo a prime, whose packing has `W` lanes.
-pub fn residues<const W: usize>(alloc: Global, row: Row) -> Result<bool, AllocError>
-where
-    Lanes<BabyBear<W>, W>: LaneWidth<W>,
-    requires { W ≤ 16 }
-{
-    match row {
-        Row::Residues(row) => polynomials::holds_over::<BabyBear<W>>(alloc, row),
-        Row::SecondHalves => slices::texts::prints::<BabyBear<W>>(alloc),
-        row => over_residues::<W, BabyBear<W>>(alloc, row),
-    }
-}
-
-/// Whether the row holds over the quartic extension of residues, whose packing has four lanes.
+/// Whether the row holds over the quartic extension of residues.
 pub fn quartics(alloc: Global, row: Row) -> Result<bool, AllocError> {
-    over_residues::<4, QuarticExtension<BabyBear<4>>>(alloc, row)
-}
-
-/// Whether the row holds over the quartic extension of residues, whose packing has one lane.
-pub fn quartics_in_one_lane(alloc: Global, row: polynomials::Row) -> Result<bool, AllocError> {
-    polynomials::holds::<BabyBear<1>, QuarticExtension<BabyBear<1>>>(alloc, row)
+    match row {
+        Row::Constants => polynomials::polys::is_constant::<Quartic>(alloc),
+        Row::Polynomials(_) | Row::SecondHalves => Ok(false),
+        Row::Slices(row) => slices::holds::<Quartic>(alloc, row),
+        Row::Sumcheck(row) => sumcheck::holds::<Residue, Quartic>(alloc, row),
+    }
 }
 
 /// Whether the row holds over the residues modulo 2^64.
 pub fn words(alloc: Global, row: slices::Row) -> Result<bool, AllocError> {
-    slices::holds::<WrappingU64<4>>(alloc, row)
+    slices::holds::<Word>(alloc, row)
 }
 
-/// Whether second halves of residues have their images in the quartic extension.
-pub fn residues_in_quartics(alloc: Global) -> Result<bool, AllocError> {
-    slices::images::images_agree::<BabyBear<4>, QuarticExtension<BabyBear<4>>>(alloc)
+/// Whether 5 times the weights of the point have the images of these numbers in the quartic extension.
+pub fn residues_in_quartics(
+    alloc: Global,
+    coordinates: &[i32],
+    numbers: &[i32],
+) -> Result<bool, AllocError>
+    requires { length coordinates.now < 64 }
+{
+    let images = elements::<Quartic>(alloc, numbers)?;
+    polynomials::images::are::<Residue, Quartic>(alloc, coordinates, &images)
 }
 
-/// Whether the images of residues in the words are right.
-pub fn residues_in_words(alloc: Global, row: ImageRow) -> Result<bool, AllocError> {
-    match row {
-        ImageRow::Halves => slices::images::images_agree::<BabyBear<4>, WrappingU64<4>>(alloc),
-        ImageRow::Splits => {
-            let images = [WrappingU64::new(10066329600), WrappingU64::new(10)];
-            polynomials::splits::has_images::<BabyBear<4>, WrappingU64<4>>(alloc, &images)
-        }
-    }
+/// Whether 5 times the weights of the point have these images in the words.
+pub fn residues_in_words(
+    alloc: Global,
+    coordinates: &[i32],
+    images: &[Word],
+) -> Result<bool, AllocError>
+    requires { length coordinates.now < 64 }
+{
+    polynomials::images::are::<Residue, Word>(alloc, coordinates, images)
 }

@@ -1,13 +1,11 @@
-//! What neither the replay nor the sweep tries: the laws, folds of long tables, images in other rings, and
-//! what `{:?}` prints.
+//! What neither the replay nor the sweep tries: the laws, folds of long tables, and what `{:?}` prints.
 
 mod folds;
-pub mod images;
 mod laws;
 pub mod texts;
 
 use crate::rings::Row::Slices;
-use crate::rings::{ImageRow, quartics, residues, residues_in_quartics, residues_in_words, words};
+use crate::rings::{quartics, residues, words};
 use mlu_ring::{Sample, SelfAlgebra};
 use std::alloc::{AllocError, Global};
 use std::test::Fail;
@@ -29,7 +27,7 @@ pub fn holds<R: SelfAlgebra + Sample>(alloc: Global, row: Row) -> Result<bool, A
 
 #[test]
 fn laws_are_called(rt: HostRuntime) -> Result<(), Fail> {
-    assert!(rt; residues::<4>(rt.alloc(), Slices(Row::Laws))?);
+    assert!(rt; residues(rt.alloc(), Slices(Row::Laws))?);
     assert!(rt; words(rt.alloc(), Row::Laws)?);
     assert!(rt; quartics(rt.alloc(), Slices(Row::Laws))?);
     Ok(())
@@ -37,14 +35,7 @@ fn laws_are_called(rt: HostRuntime) -> Result<(), Fail> {
 
 #[test]
 fn folds_of_long_tables(rt: HostRuntime) -> Result<(), Fail> {
-    assert!(rt; residues::<4>(rt.alloc(), Slices(Row::FoldsOfLongTables))?);
+    assert!(rt; residues(rt.alloc(), Slices(Row::FoldsOfLongTables))?);
     assert!(rt; quartics(rt.alloc(), Slices(Row::FoldsOfLongTables))?);
-    Ok(())
-}
-
-#[test]
-fn images_in_other_rings(rt: HostRuntime) -> Result<(), Fail> {
-    assert!(rt; residues_in_words(rt.alloc(), ImageRow::Halves)?);
-    assert!(rt; residues_in_quartics(rt.alloc())?);
     Ok(())
 }

@@ -40,35 +40,35 @@ pub fn holds<F: Field + Sample, EF: ExtensionField<F> + SelfAlgebra + Sample>(
 
 #[test]
 fn transcript(rt: HostRuntime) -> Result<(), Fail> {
-    assert!(rt; residues::<4>(rt.alloc(), Sumcheck(Row::Transcript))?);
+    assert!(rt; residues(rt.alloc(), Sumcheck(Row::Transcript))?);
     assert!(rt; quartics(rt.alloc(), Sumcheck(Row::Transcript))?);
     Ok(())
 }
 
 #[test]
 fn rounds(rt: HostRuntime) -> Result<(), Fail> {
-    assert!(rt; residues::<4>(rt.alloc(), Sumcheck(Row::Rounds))?);
+    assert!(rt; residues(rt.alloc(), Sumcheck(Row::Rounds))?);
     assert!(rt; quartics(rt.alloc(), Sumcheck(Row::Rounds))?);
     Ok(())
 }
 
 #[test]
 fn claims(rt: HostRuntime) -> Result<(), Fail> {
-    assert!(rt; residues::<4>(rt.alloc(), Sumcheck(Row::FalseClaim))?);
+    assert!(rt; residues(rt.alloc(), Sumcheck(Row::FalseClaim))?);
     assert!(rt; quartics(rt.alloc(), Sumcheck(Row::FalseClaim))?);
     Ok(())
 }
 
 #[test]
 fn law(rt: HostRuntime) -> Result<(), Fail> {
-    assert!(rt; residues::<4>(rt.alloc(), Sumcheck(Row::Law))?);
+    assert!(rt; residues(rt.alloc(), Sumcheck(Row::Law))?);
     assert!(rt; quartics(rt.alloc(), Sumcheck(Row::Law))?);
     Ok(())
 }
 
 #[test]
 fn tables_of_all_sizes(rt: HostRuntime) -> Result<(), Fail> {
-    assert!(rt; residues::<4>(rt.alloc(), Sumcheck(Row::DrawnTables))?);
+    assert!(rt; residues(rt.alloc(), Sumcheck(Row::DrawnTables))?);
     assert!(rt; quartics(rt.alloc(), Sumcheck(Row::DrawnTables))?);
     Ok(())
 }

@@ -1,5 +1,6 @@
 //! Polynomials at a point, and tables of the point, without a split table between.
 ghost use Rattle.std.specs.Prelude.{◌≡◌, ◌*◌, ◌≤◌, ◌^◌, length};
+ghost use Rattle.multilinear_util.specs.Storage.{scalars};
 
 use crate::definitions::{Compressed, Sums, next_by, table};
 use crate::lanes::{in_lanes, unpacked, values};
@@ -24,8 +25,8 @@ pub fn evaluate<F: Field, EF: ExtensionField<F>>(
         return Err(AllocError);
     }
     let weights = table(alloc, point.as_slice(), EF::ONE)?;
-    let constant = ext.as_constant().is_some();
-    report.agrees("Poly::as_constant", constant == (variables == 0));
+    let constant = (variables == 0).then_some(plain::last(ext.as_slice()));
+    report.agrees("Poly::as_constant", ext.as_constant() == constant);
     let sums = Sums::new(alloc, &weights, images)?;
     over_the_base(alloc, report, point, sums, base);
     let value = plain::dot(&weights, ext.as_slice());
@@ -55,8 +56,7 @@ fn over_the_base<F: Field, EF: ExtensionField<F>>(
     report.results("Poly::eval_next_base_by Wrap", answer, wrapped);
 }
 
-/// Compares the value of a polynomial in either storage, and in lanes where there are values for one
-/// packing.
+/// Compares a polynomial in either storage, and in lanes where there are values for one packing.
 fn in_each_storage<F: Field, EF: ExtensionField<F>>(
     alloc: Global,
     report: &mut Report,
@@ -66,18 +66,80 @@ fn in_each_storage<F: Field, EF: ExtensionField<F>>(
 ) -> Result<(), AllocError>
     requires { length ext.now ≡ 2 ^ length point.now }
 {
-    let scalars = PolyMaybePacked::Scalar(ext.try_clone(alloc)?);
-    let answer = value_stored::<F, EF>(alloc, point, scalars);
-    report.results("PolyMaybePacked::eval", answer, Ok(value));
+    let scalars = PolyMaybePacked::from(ext.try_clone(alloc)?);
+    stored::<F, EF>(alloc, report, point, &scalars, ext, value)?;
     if ext.num_evals() < F::Packing::WIDTH {
         return Ok(());
     }
     let lanes = in_lanes::<F, EF>(alloc, ext)?;
     let answer = lanes.eval_packed::<F, EF>(alloc, point);
     report.results("Poly::eval_packed", answer, Ok(value));
-    let answer = value_stored::<F, EF>(alloc, point, PolyMaybePacked::Packed(lanes));
-    report.results("PolyMaybePacked::eval of lanes", answer, Ok(value));
+    report.form = " of lanes";
+    let packed = PolyMaybePacked::Packed(lanes);
+    stored::<F, EF>(alloc, report, point, &packed, ext, value)?;
+    report.form = "";
     unpack_into::<F, EF>(alloc, report, ext)
+}
+
+/// Compares what is stored with the polynomial, and its value at the point. Fails where the point has
+/// not as many coordinates as there are variables.
+fn stored<F: Field, EF: ExtensionField<F>>(
+    alloc: Global,
+    report: &mut Report,
+    point: &Point<EF>,
+    storage: &PolyMaybePacked<F, EF>,
+    ext: &Poly<EF>,
+    value: EF,
+) -> Result<(), AllocError>
+    requires { length ext.now ≡ 2 ^ length point.now }
+{
+    if storage.num_variables() != point.num_variables() {
+        return Err(AllocError);
+    }
+    let answer = storage.eval(alloc, point);
+    report.results("PolyMaybePacked::eval", answer, Ok(value));
+    write_stored(alloc, report, storage, ext.as_slice())?;
+    let answer = unpacked_copy(alloc, storage);
+    report.table("PolyMaybePacked::unpack", answer, ext.as_slice());
+    Ok(())
+}
+
+/// Compares the number of values that are stored, and what they and a view of them write over others.
+fn write_stored<F: Field, EF: ExtensionField<F>>(
+    alloc: Global,
+    report: &mut Report,
+    storage: &PolyMaybePacked<F, EF>,
+    values: &[EF],
+) -> Result<(), AllocError>
+    requires { length (scalars EF.ExtensionPacking.ext_lanes storage.now) ≡ length values.now }
+{
+    let mut written = filled(alloc, EF::TWO, values.len())?;
+    let view = storage.as_view().as_view();
+    report.agrees(
+        "PolyMaybePacked::num_scalar_evals",
+        storage.num_scalar_evals() == written.len() && view.num_scalar_evals() == written.len(),
+    );
+    storage.unpack_into(written.as_mut_slice());
+    report.values("PolyMaybePacked::unpack_into", written.as_slice(), values);
+    written.as_mut_slice().reverse();
+    view.unpack_into(written.as_mut_slice());
+    report.values(
+        "PolyMaybePackedView::unpack_into",
+        written.as_slice(),
+        values,
+    );
+    Ok(())
+}
+
+/// The scalars of a copy.
+fn unpacked_copy<F: Field, EF: ExtensionField<F>>(
+    alloc: Global,
+    storage: &PolyMaybePacked<F, EF>,
+) -> Result<Poly<EF>, AllocError> {
+    match storage.try_clone(alloc)?.unpack(alloc) {
+        Ok(poly) => Ok(poly),
+        Err((_, error)) => Err(error),
+    }
 }
 
 /// Compares the lanes of a polynomial in lanes, written over twos.
@@ -93,19 +155,6 @@ fn unpack_into<F: Field, EF: ExtensionField<F>>(
     lanes.unpack_into::<F, EF>(&mut written);
     report.values("Poly::unpack_into", written.as_slice(), ext.as_slice());
     Ok(())
-}
-
-/// The value of a polynomial in either storage. Fails where the point has not as many coordinates as it
-/// has variables.
-fn value_stored<F: Field, EF: ExtensionField<F>>(
-    alloc: Global,
-    point: &Point<EF>,
-    storage: PolyMaybePacked<F, EF>,
-) -> Result<EF, AllocError> {
-    if storage.num_variables() != point.num_variables() {
-        return Err(AllocError);
-    }
-    storage.eval(alloc, point)
 }
 
 /// Compares the tables of a point.

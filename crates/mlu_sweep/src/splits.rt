@@ -14,8 +14,8 @@ use multilinear_util::poly::Poly;
 use multilinear_util::split_eq::SplitEq;
 use std::alloc::{AllocError, Global};
 
-/// In how many parts prefix compressions are made: one, an even cut, uneven ones, more than entries.
-const PARTS: [usize; 4] = [1, 2, 3, usize::MAX];
+/// In how many parts prefix compressions are made: one, even cuts, uneven ones, more than entries.
+const PARTS: [usize; 6] = [1, 2, 3, 4, 5, usize::MAX];
 
 /// Compares both split tables of the point with its table, and with what this leaves of the base.
 pub fn compare<F: Field, EF: ExtensionField<F>>(
@@ -34,19 +34,21 @@ pub fn compare<F: Field, EF: ExtensionField<F>>(
     }
     report.form = " (new_unpacked)";
     let split = SplitEq::<F, EF>::new_unpacked(alloc, point, scale);
-    compare_made(alloc, report, split, point, polys, defined)?;
+    compare_made(alloc, report, split, false, point, polys, defined)?;
     report.form = " (new_packed)";
     let split = SplitEq::<F, EF>::new_packed(alloc, point, scale);
-    compare_made(alloc, report, split, point, polys, defined)?;
+    let fills_a_packing = point.num_variables().div_ceil(2) >= F::Packing::LOG_WIDTH;
+    compare_made(alloc, report, split, fills_a_packing, point, polys, defined)?;
     report.form = "";
     Ok(())
 }
 
-/// Compares a split table of the point, where there is memory for it.
+/// Compares a split table of the point, whose second half is to be packed or not, where there is memory for it.
 fn compare_made<F: Field, EF: ExtensionField<F>>(
     alloc: Global,
     report: &mut Report,
     split: Result<SplitEq<F, EF>, AllocError>,
+    is_packed: bool,
     point: &Point<EF>,
     polys: (&Poly<F>, &[EF], &Poly<EF>),
     defined: &Compressed<EF>,
@@ -56,6 +58,9 @@ fn compare_made<F: Field, EF: ExtensionField<F>>(
     requires few { vec_len defined.now.weights ≤ length polys.0.now }
 {
     let split = split?;
+    let first_half = split.eq0().num_variables() == point.num_variables() / 2;
+    report.agrees("SplitEq::eq0", first_half);
+    report.agrees("SplitEq::eq1", split.eq1().is_packed() == is_packed);
     step_in_second_half(alloc, report, &split, point)?;
     compare_entries(alloc, report, &split, polys, &defined.weights)?;
     compress(alloc, report, &split, polys.0, defined)?;

@@ -1,11 +1,12 @@
-//! Sizes, views, copies and draws.
+//! Sizes, views, copies and draws; and a polynomial as the function of its points.
 
-use super::{FieldRow, Row};
-use crate::rings::Row::{Polynomials, Residues};
-use crate::rings::{quartics, quartics_in_one_lane, residues};
-use mlu_ring::{Additive, PrimeCharacteristicRing, Sample};
+use super::Row;
+use crate::rings::Row::{Constants, Polynomials};
+use crate::rings::{quartics, residues};
+use mlu_eq::laws::unique;
+use mlu_ring::{Additive, AffineInEach, PrimeCharacteristicRing, Sample};
 use mlu_test_support::numbers::{are, element};
-use mlu_test_tables::table;
+use mlu_test_tables::{point, table};
 use multilinear_util::poly::{Poly, PolyView};
 use rand_pcg::Pcg32;
 use std::alloc::{AllocError, Global};
@@ -53,8 +54,8 @@ pub fn is_constant<R: PrimeCharacteristicRing>(alloc: Global) -> Result<bool, Al
 
 #[test]
 fn constants(rt: HostRuntime) -> Result<(), Fail> {
-    assert!(rt; quartics_in_one_lane(rt.alloc(), Row::Constants)?);
-    assert!(rt; quartics(rt.alloc(), Polynomials(Row::Constants))?);
+    assert!(rt; residues(rt.alloc(), Constants)?);
+    assert!(rt; quartics(rt.alloc(), Constants)?);
     Ok(())
 }
 
@@ -81,8 +82,8 @@ pub fn is_viewed<R: Additive>(alloc: Global) -> Result<bool, AllocError> {
 
 #[test]
 fn owned_and_viewed(rt: HostRuntime) -> Result<(), Fail> {
-    assert!(rt; residues::<4>(rt.alloc(), Residues(FieldRow::Owned))?);
-    assert!(rt; residues::<4>(rt.alloc(), Residues(FieldRow::Views))?);
+    assert!(rt; residues(rt.alloc(), Polynomials(Row::Owned))?);
+    assert!(rt; residues(rt.alloc(), Polynomials(Row::Views))?);
     Ok(())
 }
 
@@ -102,6 +103,24 @@ pub fn draws_two<R: PartialEq + Copy + Sample>(alloc: Global) -> Result<bool, Al
 
 #[test]
 fn draws(rt: HostRuntime) -> Result<(), Fail> {
-    assert!(rt; residues::<4>(rt.alloc(), Residues(FieldRow::Draws))?);
+    assert!(rt; residues(rt.alloc(), Polynomials(Row::Draws))?);
+    Ok(())
+}
+
+/// Whether a polynomial is, as a function of its points, the one with its values at the vertices.
+pub fn is_the_function<R: PrimeCharacteristicRing>(alloc: Global) -> Result<bool, AllocError> {
+    let poly = table::<R>(alloc, &[1, 2, 3, 4])?;
+    let view = poly.as_view();
+    let point = point::<R>(alloc, &[2, 3])?;
+    unique(&view, view.as_slice());
+    if view.arity() != point.num_variables() {
+        return Ok(false);
+    }
+    Ok(view.at(point.as_slice()) == element(8))
+}
+
+#[test]
+fn function_of_its_points(rt: HostRuntime) -> Result<(), Fail> {
+    assert!(rt; residues(rt.alloc(), Polynomials(Row::TheFunction))?);
     Ok(())
 }

@@ -7,6 +7,7 @@ use crate::sizes::{test_lanes, test_parts};
 use crate::words::Words;
 use mlu_replay_lines::fault::{Fault, Reason};
 use mlu_ring::{ExtensionField, Field, PackedValue, SelfAlgebra};
+use multilinear_util::point::Successor::Wrap;
 
 /// The calls on polynomials; the others are handed on.
 pub fn answer<F: Field + Element, EF: ExtensionField<F> + SelfAlgebra + Element>(
@@ -22,6 +23,10 @@ pub fn answer<F: Field + Element, EF: ExtensionField<F> + SelfAlgebra + Element>
         "eval_next_base" => {
             let (table, point) = words.table_and_point::<F, EF>()?;
             value_word(alloc, table.eval_next_base(alloc, &point))
+        }
+        "eval_next_base.wrap" => {
+            let (table, point) = words.table_and_point::<F, EF>()?;
+            value_word(alloc, table.eval_next_base_by(alloc, Wrap, &point))
         }
         "compress_prefix" => {
             let (table, point, scale) = words.table_part_and_scale::<F, EF>()?;
@@ -52,6 +57,10 @@ fn of_split<F: Field + Element, EF: ExtensionField<F> + SelfAlgebra + Element>(
         "split.eval_next_base" => {
             let (table, split) = words.table_and_split::<F, F, EF>()?;
             word(alloc, split.eval_next_base(table.as_view()))
+        }
+        "split.eval_next_base.wrap" => {
+            let (table, split) = words.table_and_split::<F, F, EF>()?;
+            word(alloc, split.eval_next_base_by(Wrap, table.as_view()))
         }
         "split.compress_prefix" => {
             let (table, split) = words.table_and_smaller_split::<F, EF>()?;

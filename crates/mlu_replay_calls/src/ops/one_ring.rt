@@ -8,6 +8,7 @@ use crate::words::Words;
 use mlu_replay_lines::fault::{Fault, Reason};
 use mlu_ring::{Algebra, Field, PrimeCharacteristicRing, SelfAlgebra};
 use multilinear_util::point::Point;
+use multilinear_util::point::Successor::Wrap;
 use multilinear_util::poly::Poly;
 
 /// The most coordinates of a point that is made of a number.
@@ -57,6 +58,11 @@ fn of_table<F: SelfAlgebra + Element>(op: &str, words: &mut Words<'_>) -> Result
         "new_next_from_point" => {
             let point = words.short_point::<F>()?;
             let table = Poly::new_next_from_point(alloc, point.as_slice());
+            table_word(alloc, table)
+        }
+        "new_next_from_point.wrap" => {
+            let point = words.short_point::<F>()?;
+            let table = Poly::new_next_from_point_by(alloc, Wrap, point.as_slice());
             table_word(alloc, table)
         }
         "pad_zeros" => pad_zeros::<F>(words),

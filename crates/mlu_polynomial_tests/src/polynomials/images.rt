@@ -1,0 +1,65 @@
+//! The images of split tables in another ring.
+ghost use Rattle.std.specs.Prelude.{◌<◌, length};
+
+use crate::rings::{Word, residues_in_quartics, residues_in_words};
+use mlu_ring::{ExtensionField, MapFrom};
+use mlu_test_support::numbers::element;
+use mlu_test_tables::point;
+use multilinear_util::split_eq::SplitEq;
+use std::alloc::{AllocError, Global};
+use std::test::Fail;
+
+/// Whether 5 times the weights of the point, in either storage, have these images.
+pub fn are<R: ExtensionField<R>, S: ExtensionField<S> + MapFrom<R>>(
+    alloc: Global,
+    coordinates: &[i32],
+    images: &[S],
+) -> Result<bool, AllocError>
+    requires { length coordinates.now < 64 }
+{
+    let point = point::<R>(alloc, coordinates)?;
+    let unpacked = SplitEq::<R, R>::new_unpacked(alloc, &point, element(5))?;
+    let packed = SplitEq::<R, R>::new_packed(alloc, &point, element(5))?;
+    Ok(has_images::<R, S>(alloc, &unpacked, images)? && has_images::<R, S>(alloc, &packed, images)?)
+}
+
+/// Whether the table has these images, as scalars.
+fn has_images<R: ExtensionField<R>, S: ExtensionField<S> + MapFrom<R>>(
+    alloc: Global,
+    split: &SplitEq<R, R>,
+    images: &[S],
+) -> Result<bool, AllocError> {
+    let mapped = split.to_field::<S>(alloc)?;
+    let variables = mapped.num_variables();
+    if variables >= 32 || 1 << variables != images.len() || mapped.eq1().is_packed() {
+        return Ok(false);
+    }
+    Ok(mapped.materialize(alloc)?.as_slice() == images)
+}
+
+#[test]
+fn images_in_quartics(rt: HostRuntime) -> Result<(), Fail> {
+    let images = [-40, 50, 60, -75, 80, -100, -120, 150];
+    assert!(rt; residues_in_quartics(rt.alloc(), &[2, 3, 5], &images)?);
+    Ok(())
+}
+
+/// Of the least residues of both halves, so products of residues are not reduced.
+#[test]
+fn images_in_words(rt: HostRuntime) -> Result<(), Fail> {
+    let images = [10066329600, 10].map(Word::new);
+    assert!(rt; residues_in_words(rt.alloc(), &[2], &images)?);
+    let images = [
+        16106127328,
+        4053239638460989476,
+        4053239634434457644,
+        30198988740,
+        80,
+        20132659110,
+        20132659090,
+        150,
+    ]
+    .map(Word::new);
+    assert!(rt; residues_in_words(rt.alloc(), &[2, 3, 5], &images)?);
+    Ok(())
+}
