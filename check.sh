@@ -15,8 +15,9 @@ cd "$(dirname "$0")"
 
 places=$(nproc)
 # Proofs at a time in the gate, each in one process: a second process of a proof loads all again what the
-# first has loaded, and more proofs at a time slow each other down. RT_JOBS is read by rt.
-proofs=${RT_JOBS:-2}
+# first has loaded. More proofs at a time slow each other down, and the largest three take 18 GB. RT_JOBS is
+# read by rt.
+proofs=${RT_JOBS:-$((places < 4 ? 2 : 3))}
 room=$(mktemp -d)
 trap 'rm -rf "$room"' EXIT
 
