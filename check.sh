@@ -1,12 +1,11 @@
 #!/usr/bin/env bash
-# The tests of the repository. First the calls that take memory, with the first, the second, ..
-# allocation of each refused, until none is refused any more, and the program on words that it does not
-# answer; then the gate, which proves every crate, tries the edits of
-# crates/*/must-fail, which must be refused, and runs the tests and the program.
+# The tests of the repository. First the calls that take memory, with each of their allocations refused in turn,
+# and the program on words that it does not answer; then the gate, which proves every crate, tries the edits of
+# crates/*/must-fail, which must be refused, and runs the tests and the programs.
 #
 # Then, where cargo is there and crates/mlu_c was built by rt lib, the tests of the package in bindings/rust.
 #
-# With --refusals NAME.., the allocations of those crates are refused and nothing else is done.
+# With --refusals, allocations are refused and nothing else is done.
 #
 # With --edits NAME.., all edits of those crates are tried and nothing else: those of edits/NAME beside
 # those of the gate, over the libraries that earlier checks kept; with --edits alone, those of every crate.
@@ -21,52 +20,42 @@ proofs=${RT_JOBS:-$((places < 4 ? 2 : 3))}
 room=$(mktemp -d)
 trap 'rm -rf "$room"' EXIT
 
-# Runs the tests of crate $1 whose names have $2 with allocation $3 of each test failing.
-refuse() {
-  if (cd "crates/$1" && rt try --test --fail-alloc "$3" -- "$2") >"$room/$3.log" 2>&1; then
-    touch "$room/$3.passed"
-  fi
-}
+# In each run of mlu_refusals this allocation fails; ahead of its call a run makes 0, 1, .. so many others.
+failing=22
+most=21
 
-# Runs the tests of crate $1 with allocation 1, 2, .. of each test failing, as many at once as there
-# are processors; of mlu_program_tests those of the program alone, as the replay's fail where memory is
-# refused. Their lines say which calls are then refused and which are served; each must be refused at some
-# allocation, and served in the end.
+# Makes each call of mlu_refusals with each of its allocations refused in turn, in as many processes as there are
+# processors. Each call that takes memory must be refused in some run and served in another, and in those with
+# most allocations ahead one of these must be what fails, so that no allocation of a call is left out.
 refusals() {
-  local crate=$1 names= first allocation served=
-  [ "$crate" != mlu_program_tests ] || names=command::
-  rm -f "$room"/*
-  : >"$room/refused"
-  for ((first = 1; first <= 32 && !${#served}; first += places)); do
-    for ((allocation = first; allocation < first + places; allocation++)); do
-      refuse "$crate" "$names" "$allocation" &
-    done
-    wait
-    for ((allocation = first; allocation < first + places; allocation++)); do
-      if [ ! -e "$room/$allocation.passed" ]; then
-        cat "$room/$allocation.log"
-        echo "$crate: a test failed with allocation $allocation refused"
-        exit 1
-      fi
-      if grep -oE '^ +refused .*' "$room/$allocation.log" >"$room/names"; then
-        sed 's/^ *refused //' "$room/names" >>"$room/refused"
-      elif [ -s "$room/refused" ]; then
-        served=$(grep -oE '^ +served .*' "$room/$allocation.log" | sed 's/^ *served //' | sort)
-        break
-      fi
-    done
+  local folder=crates/mlu_refusals ahead line asked part runs ended early
+  for ((ahead = 0; ahead <= most; ahead++)); do
+    part=$room/cases.$((ahead % places))
+    mkdir -p "$part"
+    line=0
+    while read -r _ asked; do
+      echo "$ahead $asked" >"$part/$ahead.$((line += 1))"
+    done <"$folder/stdin"
   done
+  for part in "$room"/cases.*; do
+    (cd "$folder" && rt try --fail-alloc "$failing" --cases "$part") >"$part.out" 2>"$part.log" &
+  done
+  wait
 
-  if [ -z "$served" ]; then
-    echo "$crate: some call is refused whichever allocation fails"
+  sed -n 's/^served //p' "$folder/stdout" | sort >"$room/names"
+  cat "$room"/cases.*.out >"$room/out"
+  cat "$room"/cases.*.log >"$room/log"
+  runs=$(((most + 1) * line))
+  ended=$(grep -cE '^case=.* run=ended status=[03] ' "$room/log") || true
+  early=$(grep -cE "^case=$most\.[0-9]+ run=ended status=3 " "$room/log") || true
+  if [ "$ended" -ne "$runs" ] || [ "$early" -ne "$line" ] ||
+    ! diff "$room/names" <(sed -n 's/^served //p' "$room/out" | sort -u) ||
+    ! diff "$room/names" <(sed -n 's/^refused //p' "$room/out" | sort -u); then
+    grep -vE '^(case=.* run=ended status=[03] .*|allocations: .*|)$' "$room/log" || true
+    echo "mlu_refusals: a call is wrong, never refused or never served; $ended of $runs runs ended, $early early"
     exit 1
   fi
-  if [ "$served" != "$(sort -u "$room/refused")" ]; then
-    echo "$crate: each call is refused at least once, but for these:"
-    comm -3 <(echo "$served") <(sort -u "$room/refused")
-    exit 1
-  fi
-  echo "$crate: $(echo "$served" | wc -l) calls, each allocation refused in turn"
+  echo "mlu_refusals: $(wc -l <"$room/names") calls, each allocation refused in turn"
 }
 
 # Runs the program, and tests that it ends with status $1, with the line $2 on standard error and nothing
@@ -78,16 +67,6 @@ faulty() {
   if [ "$ended" -ne "$status" ] || [ -s "$room/out" ] || ! grep -qx "$line" "$room/err"; then
     cat "$room/out" "$room/err"
     echo "mlu: status $ended, in place of $status and '$line'"
-    exit 1
-  fi
-}
-
-# Replays a line with allocation $1 refused, one of the buffers of the streams, and tests that the replay says so.
-refused_replay() {
-  if ! (cd crates/mlu_program_tests && rt try --test --fail-alloc "$1" -- streams_refused) >"$room/out.$1" 2>&1 ||
-    ! grep -q '^ *refused replay_streams' "$room/out.$1"; then
-    cat "$room/out.$1"
-    echo "mlu_replay: allocation $1 is refused, and the replay does not say so"
     exit 1
   fi
 }
@@ -118,22 +97,13 @@ if [ "${1:-}" = --edits ]; then
   exit
 fi
 
+refusals
 if [ "${1:-}" = --refusals ]; then
-  shift
-  for crate in "$@"; do
-    refusals "$crate"
-  done
   exit
 fi
-
-refusals mlu_refusals
-refusals mlu_program_tests
 faulty 2 'mlu: length' -- eval 1,2,3 2
 faulty 2 'mlu: usage' -- sumcheck 3,4 2 5 6
 faulty 3 'mlu: memory' --fail-alloc 1 -- eval 1,2,3,4 2,3
-refused_replay 1 &
-refused_replay 2
-wait "$!"
 status=0
 RT_JOBS=$proofs rt ci | tee "$room/said" || status=$?
 echo "all of it took $((SECONDS / 60)) minutes on $places processors"

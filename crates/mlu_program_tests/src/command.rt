@@ -1,4 +1,4 @@
-//! The worked rows of the program, whole and with an allocation refused.
+//! The worked rows of the program.
 
 mod emit;
 
@@ -7,29 +7,12 @@ use std::alloc::{AllocError, Global};
 use std::test::Fail;
 
 /// The words of a command line.
-fn split(alloc: Global, line: &str) -> Result<Vec<String>, AllocError> {
+fn words(alloc: Global, line: &str) -> Result<Vec<String>, AllocError> {
     let mut words = Vec::new(alloc);
     for word in line.split(' ') {
         words.push(String::from_str(alloc, word)?)?;
     }
     Ok(words)
-}
-
-/// The words of a command line, where no more than one allocation is refused.
-fn words(rt: &HostRuntime, line: &str) -> Result<Vec<String>, AllocError> {
-    match split(rt.alloc(), line) {
-        Ok(words) => Ok(words),
-        Err(_) => split(rt.alloc(), line),
-    }
-}
-
-/// The answer to a command line, where no more than one allocation is refused.
-fn answered(rt: &HostRuntime, line: &str) -> Result<Result<Vec<u8>, Fault>, AllocError> {
-    let words = words(rt, line)?;
-    match answer(rt.alloc(), &words) {
-        Err(Fault::Memory) => Ok(answer(rt.alloc(), &words)),
-        answered => Ok(answered),
-    }
 }
 
 #[test]
@@ -58,7 +41,7 @@ fn lines(rt: HostRuntime) -> Result<(), Fail> {
         ("sumcheck 7 - -", "7\n"),
     ];
     for (line, text) in rows {
-        let bytes = answered(&rt, line)?.expect(&rt, line);
+        let bytes = answer(rt.alloc(), &words(rt.alloc(), line)?).expect(&rt, line);
         assert_eq!(rt; bytes.as_slice(), text.as_bytes(), "{line}");
     }
     Ok(())
@@ -98,7 +81,7 @@ fn faults(rt: HostRuntime) -> Result<(), Fail> {
         ("sumcheck 1,2 2", Fault::Usage),
     ];
     for (line, fault) in rows {
-        let words = words(&rt, line)?;
+        let words = words(rt.alloc(), line)?;
         assert_eq!(rt; answer(rt.alloc(), &words).err(), Some(fault), "{line}");
     }
     Ok(())
@@ -125,9 +108,7 @@ fn long_points(rt: HostRuntime) -> Result<(), Fail> {
     // A table of 2^63 entries can be asked for, but not had.
     for (coordinates, fault) in [(63, Fault::Memory), (64, Fault::Length)] {
         for name in ["msb", "lsb"] {
-            let Ok(words) = words_of_point(rt.alloc(), name, coordinates) else {
-                return Ok(());
-            };
+            let words = words_of_point(rt.alloc(), name, coordinates)?;
             assert_eq!(rt;
                 answer(rt.alloc(), &words).err(),
                 Some(fault),
@@ -139,7 +120,7 @@ fn long_points(rt: HostRuntime) -> Result<(), Fail> {
 }
 
 #[test]
-fn texts_and_statuses(rt: HostRuntime) {
+fn texts_and_statuses(rt: HostRuntime) -> Result<(), Fail> {
     let rows = [
         (Fault::Usage, "mlu: usage\n", 2, "Usage"),
         (Fault::Number, "mlu: number\n", 2, "Number"),
@@ -150,70 +131,10 @@ fn texts_and_statuses(rt: HostRuntime) {
     for (fault, text, status, name) in rows {
         assert_eq!(rt; fault.text(), text);
         assert_eq!(rt; fault.status(), status);
-        if let Ok(shown) = format!(in rt.alloc(); "{fault:?}") {
-            assert_eq!(rt; shown.as_str(), name);
-        }
-    }
-}
-
-/// Says on standard output whether a command line is served or refused memory. No more than one
-/// allocation is refused, so that it is then served.
-///
-/// # Errors
-/// Where the answer is another than the text, or the line can't be written.
-fn report(rt: &HostRuntime, line: &str, text: &str) -> Result<(), Fail> {
-    let words = words(rt, line)?;
-    let mut outcome = "served";
-    let mut answered = answer(rt.alloc(), &words);
-    if let Err(Fault::Memory) = answered {
-        outcome = "refused";
-        answered = answer(rt.alloc(), &words);
-    }
-    match answered {
-        Ok(bytes) if bytes.as_slice() == text.as_bytes() => println!(rt; "{outcome} {line}")?,
-        _ => return Err(Fail::new("another answer, or a fault")),
+        let shown = format!(in rt.alloc(); "{fault:?}")?;
+        assert_eq!(rt; shown.as_str(), name);
     }
     Ok(())
-}
-
-#[test]
-fn eval_refused(rt: HostRuntime) -> Result<(), Fail> {
-    report(&rt, "eval 1,2,3,4 2,3", "8\n")
-}
-
-#[test]
-fn next_refused(rt: HostRuntime) -> Result<(), Fail> {
-    report(&rt, "next 1,2,3,4 2,3", "3\n")
-}
-
-#[test]
-fn msb_refused(rt: HostRuntime) -> Result<(), Fail> {
-    report(&rt, "msb 2,3", "2,2013265918,2013265917,6\n")
-}
-
-#[test]
-fn lsb_refused(rt: HostRuntime) -> Result<(), Fail> {
-    report(&rt, "lsb 2,3", "2,2013265917,2013265918,6\n")
-}
-
-#[test]
-fn fold_first_refused(rt: HostRuntime) -> Result<(), Fail> {
-    report(&rt, "fold-first 1,2,3,4 2", "5,6\n")
-}
-
-#[test]
-fn fold_last_refused(rt: HostRuntime) -> Result<(), Fail> {
-    report(&rt, "fold-last 1,2,3,4 2", "3,5\n")
-}
-
-#[test]
-fn routes_refused(rt: HostRuntime) -> Result<(), Fail> {
-    report(&rt, "routes 1,2,3,4,5,6,7,8 2,3,5", "20\n20\n20\n20\n")
-}
-
-#[test]
-fn sumcheck_refused(rt: HostRuntime) -> Result<(), Fail> {
-    report(&rt, "sumcheck 3,4 2 5", "2013265918,8,3\n112\n")
 }
 
 /// The words of a command on the table 0, 1, .., of so many entries, and so many coordinates 2.
@@ -245,10 +166,9 @@ fn large_tables(rt: HostRuntime) -> Result<(), Fail> {
         ("routes", 8192, 13, "16382\n16382\n16382\n16382\n"),
     ];
     for (name, entries, coordinates, text) in rows {
-        let Ok(line) = large_table(rt.alloc(), name, entries, coordinates) else {
-            return Ok(());
-        };
-        let bytes = answered(&rt, line.as_str())?.expect(&rt, name);
+        let line = large_table(rt.alloc(), name, entries, coordinates)?;
+        let words = words(rt.alloc(), line.as_str())?;
+        let bytes = answer(rt.alloc(), &words).expect(&rt, name);
         assert_eq!(rt; bytes.as_slice(), text.as_bytes(), "{name} {entries}");
     }
     Ok(())

@@ -1,7 +1,7 @@
-//! What is written of lines, and their count; streams that fail, and buffers that are refused.
+//! What is written of lines, and their count; streams that fail.
 
 use mlu_replay_lines::fault::{Fault, Reason};
-use mlu_replay_lines::replay::{Answers, Tally, replay, replay_streams};
+use mlu_replay_lines::replay::{Answers, Tally, replay};
 use mlu_replay_lines::stop::Stop;
 use std::alloc::Global;
 use std::io::{ErrorKind, Read, Write};
@@ -127,45 +127,5 @@ fn failing_streams(rt: HostRuntime) -> Result<(), Fail> {
         let stopped = replay::<Fixed, _, _>(rt.alloc(), &mut &b"line"[..], &mut Halting { left });
         assert_eq!(rt; stopped, Err(Stop::Write));
     }
-    Ok(())
-}
-
-/// A stream that counts its bytes and keeps none.
-#[derive(Drop)]
-struct Counted {
-    bytes: usize,
-}
-
-impl Write for Counted {
-    fn write(&mut self, buf: &[u8]) -> io::Result<usize> {
-        self.bytes = self.bytes.saturating_add(buf.len());
-        Ok(buf.len())
-    }
-
-    fn flush(&mut self) -> io::Result<()> {
-        Ok(())
-    }
-}
-
-/// Says on standard output whether a replay is served or refused memory. No more than one allocation is
-/// refused, so that it is then served.
-#[test]
-fn streams_refused(rt: HostRuntime) -> Result<(), Fail> {
-    let lines = &b"msb 4 b - = 1\n"[..];
-    let mut out = Counted { bytes: 0 };
-    let mut outcome = "served";
-    let mut replayed = replay_streams::<Fixed, _, _>(rt.alloc(), lines, &mut out);
-    if let Err(Stop::Memory) = replayed {
-        assert_eq!(rt; out.bytes, 0);
-        outcome = "refused";
-        replayed = replay_streams::<Fixed, _, _>(rt.alloc(), lines, &mut out);
-    }
-    let one = Tally {
-        compared: 1,
-        differ: 0,
-        unknown: 0,
-    };
-    assert_eq!(rt; replayed, Ok(one));
-    println!(rt; "{outcome} replay_streams")?;
     Ok(())
 }

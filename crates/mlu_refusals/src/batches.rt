@@ -2,15 +2,15 @@
 ghost use Rattle.std.specs.Prelude.{◌≡◌, ◌/◌, ◌^◌, ◌<◌, length};
 ghost use Rattle.mlu_ring.specs.Matrices.{AreRows};
 
+use crate::calls;
+use crate::calls::Call::Batch;
 use crate::outcome::{Outcome, written};
-use crate::residues::Call::Batch;
 use mlu_point::eq_batch::{
     eval_eq_base_batch, eval_eq_base_batch_in_chunks, eval_eq_batch, eval_eq_batch_in_chunks,
 };
 use mlu_ring::{ExtensionField, Field, RowMajorMatrixView};
 use mlu_test_support::numbers::elements;
 use std::alloc::{AllocError, Global};
-use std::test::Fail;
 
 /// The calls that this file makes.
 #[derive(Clone, Copy)]
@@ -23,6 +23,17 @@ pub enum Call {
 
 /// The vertices 19 and 1 of five variables, which are two chunks, in lanes.
 const VERTICES: [i32; 10] = [1, 0, 0, 0, 0, 0, 1, 0, 1, 1];
+
+/// The call with this name.
+pub fn named(name: &str) -> Option<calls::Call> {
+    Some(match name {
+        "eval_eq_batch" => Batch(Call::EvalEqBatch),
+        "eval_eq_base_batch" => Batch(Call::EvalEqBaseBatch),
+        "eval_eq_batch_in_chunks" => Batch(Call::EvalEqBatchInChunks),
+        "eval_eq_base_batch_in_chunks" => Batch(Call::EvalEqBaseBatchInChunks),
+        _ => return None,
+    })
+}
 
 /// What becomes of the call. Fails where its inputs are refused.
 pub fn made<R: ExtensionField<R>>(alloc: Global, call: Call) -> Result<Outcome, AllocError> {
@@ -80,24 +91,4 @@ fn of_points<R: ExtensionField<R>>(
         }
     };
     Ok(written(done, places.as_slice(), after, before))
-}
-
-#[test]
-fn eval_eq_batch_written(rt: HostRuntime) -> Result<(), Fail> {
-    Batch(Call::EvalEqBatch).tried(&rt, "eval_eq_batch")
-}
-
-#[test]
-fn eval_eq_base_batch_added(rt: HostRuntime) -> Result<(), Fail> {
-    Batch(Call::EvalEqBaseBatch).tried(&rt, "eval_eq_base_batch")
-}
-
-#[test]
-fn eval_eq_batch_in_chunks_written(rt: HostRuntime) -> Result<(), Fail> {
-    Batch(Call::EvalEqBatchInChunks).tried(&rt, "eval_eq_batch_in_chunks")
-}
-
-#[test]
-fn eval_eq_base_batch_in_chunks_added(rt: HostRuntime) -> Result<(), Fail> {
-    Batch(Call::EvalEqBaseBatchInChunks).tried(&rt, "eval_eq_base_batch_in_chunks")
 }

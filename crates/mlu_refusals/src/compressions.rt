@@ -2,13 +2,13 @@
 ghost use Rattle.std.specs.Prelude.{◌≡◌};
 
 use crate::answers::{gives_lanes, gives_poly};
+use crate::calls;
+use crate::calls::Call::Compression;
 use crate::given::Receiver::{self, Owner, View};
 use crate::given::{counted, is_counted, point};
 use crate::outcome::{Outcome, judge};
-use crate::residues::Call::Compression;
 use mlu_ring::{ExtensionField, Field, PrimeCharacteristicRing};
 use std::alloc::{AllocError, Global};
-use std::test::Fail;
 
 /// The calls that this file makes.
 #[derive(Clone, Copy)]
@@ -16,6 +16,19 @@ pub enum Call {
     Prefix(Receiver),
     PrefixToPacked(Receiver),
     Suffix(Receiver),
+}
+
+/// The call with this name.
+pub fn named(name: &str) -> Option<calls::Call> {
+    Some(match name {
+        "Poly::compress_prefix_to_packed" => Compression(Call::PrefixToPacked(Owner)),
+        "Poly::compress_prefix" => Compression(Call::Prefix(Owner)),
+        "Poly::compress_suffix" => Compression(Call::Suffix(Owner)),
+        "PolyView::compress_prefix_to_packed" => Compression(Call::PrefixToPacked(View)),
+        "PolyView::compress_prefix" => Compression(Call::Prefix(View)),
+        "PolyView::compress_suffix" => Compression(Call::Suffix(View)),
+        _ => return None,
+    })
 }
 
 /// What becomes of the call. Fails where its inputs are refused.
@@ -39,34 +52,4 @@ pub fn made<R: ExtensionField<R>>(alloc: Global, call: Call) -> Result<Outcome, 
         Call::Suffix(View) => gives_poly(view.compress_suffix(alloc, point, scale), &suffix),
     };
     Ok(judge(answered, is_counted(&poly, 8)))
-}
-
-#[test]
-fn prefix_compressed_to_packed(rt: HostRuntime) -> Result<(), Fail> {
-    Compression(Call::PrefixToPacked(Owner)).tried(&rt, "Poly::compress_prefix_to_packed")
-}
-
-#[test]
-fn prefix_compressed_at_a_point(rt: HostRuntime) -> Result<(), Fail> {
-    Compression(Call::Prefix(Owner)).tried(&rt, "Poly::compress_prefix")
-}
-
-#[test]
-fn suffix_compressed_at_a_point(rt: HostRuntime) -> Result<(), Fail> {
-    Compression(Call::Suffix(Owner)).tried(&rt, "Poly::compress_suffix")
-}
-
-#[test]
-fn prefix_of_a_view_compressed_to_packed(rt: HostRuntime) -> Result<(), Fail> {
-    Compression(Call::PrefixToPacked(View)).tried(&rt, "PolyView::compress_prefix_to_packed")
-}
-
-#[test]
-fn prefix_of_a_view_compressed(rt: HostRuntime) -> Result<(), Fail> {
-    Compression(Call::Prefix(View)).tried(&rt, "PolyView::compress_prefix")
-}
-
-#[test]
-fn suffix_of_a_view_compressed(rt: HostRuntime) -> Result<(), Fail> {
-    Compression(Call::Suffix(View)).tried(&rt, "PolyView::compress_suffix")
 }

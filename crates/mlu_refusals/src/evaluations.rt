@@ -1,16 +1,16 @@
 //! Evaluations below the threshold, which do not fail, and from it on.
 
 use crate::answers::gives;
+use crate::calls;
+use crate::calls::Call::{Evaluation, Words};
 use crate::given::Receiver::{self, Owner, View};
 use crate::given::{counted, is_counted, point};
 use crate::outcome::{Outcome, judge};
-use crate::residues::Call::{Evaluation, Words};
 use mlu_point::point::Point;
 use mlu_ring::{ExtensionField, Field};
 use mlu_test_support::numbers::element;
 use multilinear_util::poly::Poly;
 use std::alloc::{AllocError, Global};
-use std::test::Fail;
 
 /// The calls that this file makes.
 #[derive(Clone, Copy)]
@@ -19,6 +19,20 @@ pub enum Call {
     EvalBase(Receiver),
     EvalBaseOfTen,
     EvalExt(Receiver),
+}
+
+/// The call with this name.
+pub fn named(name: &str) -> Option<calls::Call> {
+    Some(match name {
+        "Poly::eval_base" => Evaluation(Call::EvalBase(Owner)),
+        "Poly::eval_ext" => Evaluation(Call::EvalExt(Owner)),
+        "PolyView::eval_base" => Evaluation(Call::EvalBase(View)),
+        "PolyView::eval_ext" => Evaluation(Call::EvalExt(View)),
+        "Poly::eval_base of words" => Words(Call::EvalBaseOfTen),
+        "Poly::eval_base of words below the threshold" => Words(Call::EvalBase(Owner)),
+        "below the threshold" => Evaluation(Call::Below),
+        _ => return None,
+    })
 }
 
 /// What becomes of the call. Fails where its inputs are refused.
@@ -52,39 +66,4 @@ fn eval_base_of_ten<R: ExtensionField<R>>(alloc: Global) -> Result<Outcome, Allo
     let poly = counted::<R>(alloc, 1024)?;
     let answered = gives(poly.eval_base(alloc, point), 2047);
     Ok(judge(answered, is_counted(&poly, 1024)))
-}
-
-#[test]
-fn value_of_base_elements(rt: HostRuntime) -> Result<(), Fail> {
-    Evaluation(Call::EvalBase(Owner)).tried(&rt, "Poly::eval_base")
-}
-
-#[test]
-fn value_of_extension_elements(rt: HostRuntime) -> Result<(), Fail> {
-    Evaluation(Call::EvalExt(Owner)).tried(&rt, "Poly::eval_ext")
-}
-
-#[test]
-fn value_of_borrowed_base_elements(rt: HostRuntime) -> Result<(), Fail> {
-    Evaluation(Call::EvalBase(View)).tried(&rt, "PolyView::eval_base")
-}
-
-#[test]
-fn value_of_borrowed_extension_elements(rt: HostRuntime) -> Result<(), Fail> {
-    Evaluation(Call::EvalExt(View)).tried(&rt, "PolyView::eval_ext")
-}
-
-#[test]
-fn value_of_words(rt: HostRuntime) -> Result<(), Fail> {
-    Words(Call::EvalBaseOfTen).tried(&rt, "Poly::eval_base of words")
-}
-
-#[test]
-fn words_below_the_threshold(rt: HostRuntime) {
-    assert!(rt; Words(Call::EvalBase(Owner)).is_served(rt.alloc()));
-}
-
-#[test]
-fn evaluations_below_the_threshold(rt: HostRuntime) {
-    assert!(rt; Evaluation(Call::Below).is_served(rt.alloc()));
 }

@@ -2,13 +2,13 @@
 ghost use Rattle.std.specs.Prelude.{◌≡◌};
 
 use crate::answers::{gives_lanes, gives_poly};
+use crate::calls;
+use crate::calls::Call::Fold;
 use crate::given::Receiver::{self, Owner, View};
 use crate::given::{counted, is_counted};
 use crate::outcome::{Outcome, judge, written};
-use crate::residues::Call::Fold;
 use mlu_ring::{Algebra, ExtensionField, Field, PrimeCharacteristicRing};
 use std::alloc::{AllocError, Global};
-use std::test::Fail;
 
 /// The calls that this file makes.
 #[derive(Clone, Copy)]
@@ -22,6 +22,20 @@ pub enum Call {
 const PREFIX: [i32; 4] = [9, 10, 11, 12];
 
 const SUFFIX: [i32; 4] = [3, 5, 7, 9];
+
+/// The call with this name.
+pub fn named(name: &str) -> Option<calls::Call> {
+    Some(match name {
+        "Poly::fix_prefix_var" => Fold(Call::Prefix(Owner)),
+        "Poly::fix_prefix_var_to_packed" => Fold(Call::PrefixToPacked(Owner)),
+        "PolyView::fix_prefix_var" => Fold(Call::Prefix(View)),
+        "PolyView::fix_prefix_var_to_packed" => Fold(Call::PrefixToPacked(View)),
+        "Poly::fix_suffix_var" => Fold(Call::Suffix(Owner)),
+        "PolyView::fix_suffix_var" => Fold(Call::Suffix(View)),
+        "Poly::fix_suffix_var_mut_split" => Fold(Call::SuffixMutSplit),
+        _ => return None,
+    })
+}
 
 /// What becomes of the call. Fails where its inputs are refused.
 pub fn made<R: ExtensionField<R>>(alloc: Global, call: Call) -> Result<Outcome, AllocError>
@@ -53,39 +67,4 @@ fn suffix_mut_split<R: PrimeCharacteristicRing + Algebra<R>>(
     let done = poly.fix_suffix_var_mut_split(alloc, R::TWO);
     let before = [1, 2, 3, 4, 5, 6, 7, 8];
     Ok(written(done, poly.as_slice(), &SUFFIX, &before))
-}
-
-#[test]
-fn prefix_folded(rt: HostRuntime) -> Result<(), Fail> {
-    Fold(Call::Prefix(Owner)).tried(&rt, "Poly::fix_prefix_var")
-}
-
-#[test]
-fn prefix_folded_to_packed(rt: HostRuntime) -> Result<(), Fail> {
-    Fold(Call::PrefixToPacked(Owner)).tried(&rt, "Poly::fix_prefix_var_to_packed")
-}
-
-#[test]
-fn prefix_of_a_view_folded(rt: HostRuntime) -> Result<(), Fail> {
-    Fold(Call::Prefix(View)).tried(&rt, "PolyView::fix_prefix_var")
-}
-
-#[test]
-fn prefix_of_a_view_folded_to_packed(rt: HostRuntime) -> Result<(), Fail> {
-    Fold(Call::PrefixToPacked(View)).tried(&rt, "PolyView::fix_prefix_var_to_packed")
-}
-
-#[test]
-fn suffix_folded(rt: HostRuntime) -> Result<(), Fail> {
-    Fold(Call::Suffix(Owner)).tried(&rt, "Poly::fix_suffix_var")
-}
-
-#[test]
-fn suffix_of_a_view_folded(rt: HostRuntime) -> Result<(), Fail> {
-    Fold(Call::Suffix(View)).tried(&rt, "PolyView::fix_suffix_var")
-}
-
-#[test]
-fn suffix_folded_in_place(rt: HostRuntime) -> Result<(), Fail> {
-    Fold(Call::SuffixMutSplit).tried(&rt, "Poly::fix_suffix_var_mut_split")
 }

@@ -18,6 +18,9 @@ pub enum Receiver {
     View,
 }
 
+/// The weights of the point (2, 3, 5).
+pub const WEIGHTS: [i32; 8] = [-8, 10, 12, -15, 16, -20, -24, 30];
+
 /// The point with these coordinates.
 pub fn point<R: Additive>(alloc: Global, numbers: &[i32]) -> Result<Point<R>, AllocError>
     ensures { IfOk result (λ point. length point ≡ length numbers.now) }
@@ -92,5 +95,5 @@ pub fn has_weights<R: ExtensionField<R>>(split: &SplitEq<R, R>, zeros: &mut [R])
     requires { length zeros.old ≡ length (split_entries R.ring split.now) }
 {
     split.accumulate_into(zeros, None);
-    are(zeros, &[-8, 10, 12, -15, 16, -20, -24, 30])
+    are(zeros, &WEIGHTS)
 }

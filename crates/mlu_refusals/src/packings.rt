@@ -2,15 +2,15 @@
 ghost use Rattle.std.specs.Prelude.{◌≡◌};
 
 use crate::answers::{gives, gives_lanes, gives_poly};
+use crate::calls;
+use crate::calls::Call::Packing;
 use crate::given::Receiver::{self, Owner, View};
 use crate::given::{counted, is_counted, packed, point};
 use crate::outcome::{Outcome, judge};
-use crate::residues::Call::Packing;
 use mlu_point::point::Point;
 use mlu_ring::{ExtensionField, Field};
 use multilinear_util::poly::Poly;
 use std::alloc::{AllocError, Global};
-use std::test::Fail;
 
 /// The calls that this file makes.
 #[derive(Clone, Copy)]
@@ -18,6 +18,19 @@ pub enum Call {
     Pack(Receiver),
     Unpack(Receiver),
     EvalPacked(Receiver),
+}
+
+/// The call with this name.
+pub fn named(name: &str) -> Option<calls::Call> {
+    Some(match name {
+        "Poly::pack" => Packing(Call::Pack(Owner)),
+        "Poly::unpack" => Packing(Call::Unpack(Owner)),
+        "Poly::eval_packed" => Packing(Call::EvalPacked(Owner)),
+        "PolyView::pack" => Packing(Call::Pack(View)),
+        "PolyView::unpack" => Packing(Call::Unpack(View)),
+        "PolyView::eval_packed" => Packing(Call::EvalPacked(View)),
+        _ => return None,
+    })
 }
 
 /// What becomes of the call. Fails where its inputs are refused.
@@ -38,34 +51,4 @@ pub fn made<R: ExtensionField<R>>(alloc: Global, call: Call) -> Result<Outcome, 
         Call::EvalPacked(View) => gives(lanes.eval_packed::<R, R>(alloc, point), 20),
     };
     Ok(judge(answered, is_counted(&poly, 8)))
-}
-
-#[test]
-fn packed_poly(rt: HostRuntime) -> Result<(), Fail> {
-    Packing(Call::Pack(Owner)).tried(&rt, "Poly::pack")
-}
-
-#[test]
-fn unpacked_poly(rt: HostRuntime) -> Result<(), Fail> {
-    Packing(Call::Unpack(Owner)).tried(&rt, "Poly::unpack")
-}
-
-#[test]
-fn value_of_a_packed_poly(rt: HostRuntime) -> Result<(), Fail> {
-    Packing(Call::EvalPacked(Owner)).tried(&rt, "Poly::eval_packed")
-}
-
-#[test]
-fn packed_view(rt: HostRuntime) -> Result<(), Fail> {
-    Packing(Call::Pack(View)).tried(&rt, "PolyView::pack")
-}
-
-#[test]
-fn unpacked_view(rt: HostRuntime) -> Result<(), Fail> {
-    Packing(Call::Unpack(View)).tried(&rt, "PolyView::unpack")
-}
-
-#[test]
-fn value_of_a_packed_view(rt: HostRuntime) -> Result<(), Fail> {
-    Packing(Call::EvalPacked(View)).tried(&rt, "PolyView::eval_packed")
 }

@@ -2,17 +2,17 @@
 ghost use Rattle.std.specs.Prelude.{◌≡◌, length};
 
 use crate::answers::gives_point;
+use crate::calls;
+use crate::calls::Call::Point as Tried;
 use crate::given::Receiver::{self, Owner, View};
 use crate::given::point;
 use crate::outcome::{Outcome, judge, written};
-use crate::residues::Call::Point as Tried;
 use mlu_point::point::{Point, PointView};
 use mlu_ring::{Additive, Field, Sample};
 use mlu_test_support::numbers::{are, element, elements};
 use rand_pcg::Pcg32;
 use std::alloc::{AllocError, Global};
 use std::slice;
-use std::test::Fail;
 
 /// The calls that this file makes.
 #[derive(Clone, Copy)]
@@ -26,6 +26,25 @@ pub enum Call {
     ExpandFromUnivariate,
     Transpose,
     Rand,
+}
+
+/// The call with this name.
+pub fn named(name: &str) -> Option<calls::Call> {
+    Some(match name {
+        "Point::get_subpoint_over_range" => Tried(Call::GetSubpointOverRange(Owner)),
+        "Point::reversed" => Tried(Call::Reversed(Owner)),
+        "Point::split_at" => Tried(Call::SplitAt(Owner)),
+        "Point::try_clone" => Tried(Call::TryClone),
+        "Point::extend" => Tried(Call::Extend),
+        "Point::hypercube" => Tried(Call::Hypercube),
+        "Point::expand_from_univariate" => Tried(Call::ExpandFromUnivariate),
+        "Point::transpose" => Tried(Call::Transpose),
+        "Point::rand" => Tried(Call::Rand),
+        "PointView::get_subpoint_over_range" => Tried(Call::GetSubpointOverRange(View)),
+        "PointView::reversed" => Tried(Call::Reversed(View)),
+        "PointView::split_at" => Tried(Call::SplitAt(View)),
+        _ => return None,
+    })
 }
 
 /// What becomes of the call. Fails where its inputs are refused.
@@ -84,64 +103,4 @@ fn transpose<R: Field>(alloc: Global, points: &[Point<R>]) -> Result<bool, Alloc
 fn rand<T: Sample + Copy>(alloc: Global) -> Result<bool, AllocError> {
     let mut rng = Pcg32::new(1, 54);
     Ok(Point::<T>::rand(alloc, &mut rng, 5)?.num_variables() == 5)
-}
-
-#[test]
-fn get_subpoint_over_range(rt: HostRuntime) -> Result<(), Fail> {
-    Tried(Call::GetSubpointOverRange(Owner)).tried(&rt, "Point::get_subpoint_over_range")
-}
-
-#[test]
-fn reversed_point(rt: HostRuntime) -> Result<(), Fail> {
-    Tried(Call::Reversed(Owner)).tried(&rt, "Point::reversed")
-}
-
-#[test]
-fn split_at_a_coordinate(rt: HostRuntime) -> Result<(), Fail> {
-    Tried(Call::SplitAt(Owner)).tried(&rt, "Point::split_at")
-}
-
-#[test]
-fn copied_point(rt: HostRuntime) -> Result<(), Fail> {
-    Tried(Call::TryClone).tried(&rt, "Point::try_clone")
-}
-
-#[test]
-fn extended_point(rt: HostRuntime) -> Result<(), Fail> {
-    Tried(Call::Extend).tried(&rt, "Point::extend")
-}
-
-#[test]
-fn vertex(rt: HostRuntime) -> Result<(), Fail> {
-    Tried(Call::Hypercube).tried(&rt, "Point::hypercube")
-}
-
-#[test]
-fn expand_from_univariate(rt: HostRuntime) -> Result<(), Fail> {
-    Tried(Call::ExpandFromUnivariate).tried(&rt, "Point::expand_from_univariate")
-}
-
-#[test]
-fn transposed_points(rt: HostRuntime) -> Result<(), Fail> {
-    Tried(Call::Transpose).tried(&rt, "Point::transpose")
-}
-
-#[test]
-fn drawn_point(rt: HostRuntime) -> Result<(), Fail> {
-    Tried(Call::Rand).tried(&rt, "Point::rand")
-}
-
-#[test]
-fn get_subpoint_of_a_view(rt: HostRuntime) -> Result<(), Fail> {
-    Tried(Call::GetSubpointOverRange(View)).tried(&rt, "PointView::get_subpoint_over_range")
-}
-
-#[test]
-fn reversed_view(rt: HostRuntime) -> Result<(), Fail> {
-    Tried(Call::Reversed(View)).tried(&rt, "PointView::reversed")
-}
-
-#[test]
-fn split_view(rt: HostRuntime) -> Result<(), Fail> {
-    Tried(Call::SplitAt(View)).tried(&rt, "PointView::split_at")
 }

@@ -2,16 +2,16 @@
 ghost use Rattle.std.specs.Prelude.{◌≡◌, length};
 
 use crate::answers::{gives_lanes, gives_poly};
-use crate::given::{counted, is_counted, point};
+use crate::calls;
+use crate::calls::Call::Poly as Tried;
+use crate::given::{WEIGHTS, counted, is_counted, point};
 use crate::outcome::{Outcome, judge, written};
-use crate::residues::Call::Poly as Tried;
 use mlu_point::point::Point;
 use mlu_ring::{ExtensionField, Field, PrimeCharacteristicRing, Sample};
 use mlu_test_support::numbers::{are, element};
 use multilinear_util::poly::Poly;
 use rand_pcg::Pcg32;
 use std::alloc::{AllocError, Global};
-use std::test::Fail;
 
 /// The calls that this file makes.
 #[derive(Clone, Copy)]
@@ -22,6 +22,19 @@ pub enum Call {
     TryClone,
     NewFromPoint,
     NewPackedFromPoint,
+}
+
+/// The call with this name.
+pub fn named(name: &str) -> Option<calls::Call> {
+    Some(match name {
+        "Poly::zero" => Tried(Call::Zero),
+        "Poly::pad_zeros" => Tried(Call::PadZeros),
+        "Poly::rand" => Tried(Call::Rand),
+        "Poly::try_clone" => Tried(Call::TryClone),
+        "Poly::new_from_point" => Tried(Call::NewFromPoint),
+        "Poly::new_packed_from_point" => Tried(Call::NewPackedFromPoint),
+        _ => return None,
+    })
 }
 
 /// What becomes of the call. Fails where its inputs are refused.
@@ -41,7 +54,7 @@ pub fn made<R: ExtensionField<R> + Sample>(alloc: Global, call: Call) -> Result<
         }
         Call::NewPackedFromPoint => {
             let table = Poly::new_packed_from_point::<R, R>(alloc, point.as_slice(), R::ONE);
-            gives_lanes::<R>(table, &[-8, 10, 12, -15, 16, -20, -24, 30])
+            gives_lanes::<R>(table, &WEIGHTS)
         }
     };
     let kept = is_counted(&poly, 8) && are(point.as_slice(), &[2, 3, 5]);
@@ -61,34 +74,4 @@ fn pad_zeros<R: PrimeCharacteristicRing>(mut poly: Poly<R>) -> Outcome
 fn rand<T: Sample + Copy>(alloc: Global) -> Result<bool, AllocError> {
     let mut rng = Pcg32::new(1, 54);
     Ok(Poly::<T>::rand(alloc, &mut rng, 3)?.num_evals() == 8)
-}
-
-#[test]
-fn zeros(rt: HostRuntime) -> Result<(), Fail> {
-    Tried(Call::Zero).tried(&rt, "Poly::zero")
-}
-
-#[test]
-fn padded_poly(rt: HostRuntime) -> Result<(), Fail> {
-    Tried(Call::PadZeros).tried(&rt, "Poly::pad_zeros")
-}
-
-#[test]
-fn drawn_poly(rt: HostRuntime) -> Result<(), Fail> {
-    Tried(Call::Rand).tried(&rt, "Poly::rand")
-}
-
-#[test]
-fn copied_poly(rt: HostRuntime) -> Result<(), Fail> {
-    Tried(Call::TryClone).tried(&rt, "Poly::try_clone")
-}
-
-#[test]
-fn table_of_a_point(rt: HostRuntime) -> Result<(), Fail> {
-    Tried(Call::NewFromPoint).tried(&rt, "Poly::new_from_point")
-}
-
-#[test]
-fn packed_table_of_a_point(rt: HostRuntime) -> Result<(), Fail> {
-    Tried(Call::NewPackedFromPoint).tried(&rt, "Poly::new_packed_from_point")
 }

@@ -3,16 +3,16 @@ ghost use Rattle.std.specs.Prelude.{◌≡◌, length};
 ghost use Rattle.multilinear_util.specs.Split.{split_entries};
 
 use crate::answers::{gives, gives_poly, has_lanes};
+use crate::calls;
+use crate::calls::Call::Split;
 use crate::given::Half::{self, Lanes, Scalars};
-use crate::given::{counted, has_weights, is_counted, packed, point, split};
+use crate::given::{WEIGHTS, counted, has_weights, is_counted, packed, point, split};
 use crate::outcome::{Outcome, judge};
-use crate::residues::Call::Split;
 use mlu_ring::{Additive, ExtensionField, Field, MapFrom, PrimeCharacteristicRing};
 use mlu_test_support::numbers::{element, elements};
 use multilinear_util::poly::Poly;
 use multilinear_util::split_eq::SplitEq;
 use std::alloc::{AllocError, Global};
-use std::test::Fail;
 
 /// The calls that this file makes.
 #[derive(Clone, Copy)]
@@ -28,6 +28,26 @@ pub enum Call {
     CompressSuffix,
 }
 
+/// The call with this name.
+pub fn named(name: &str) -> Option<calls::Call> {
+    Some(match name {
+        "SplitEq::new_unpacked" => Split(Scalars, Call::New),
+        "SplitEq::new_packed" => Split(Lanes, Call::New),
+        "SplitEq::try_clone" => Split(Scalars, Call::TryClone),
+        "EqMaybePacked::try_clone" => Split(Scalars, Call::CloneHalf),
+        "SplitEq::try_clone of packed weights" => Split(Lanes, Call::TryClone),
+        "EqMaybePacked::try_clone of packed weights" => Split(Lanes, Call::CloneHalf),
+        "SplitEq::to_field" => Split(Scalars, Call::ToField),
+        "SplitEq::to_field of packed weights" => Split(Lanes, Call::ToField),
+        "SplitEq::materialize" => Split(Scalars, Call::Materialize),
+        "SplitEq::accumulate_into_packed" => Split(Scalars, Call::AccumulateIntoPacked),
+        "SplitEq::eval_packed" => Split(Scalars, Call::EvalPacked),
+        "SplitEq::compress_prefix" => Split(Scalars, Call::CompressPrefix),
+        "SplitEq::compress_suffix" => Split(Scalars, Call::CompressSuffix),
+        _ => return None,
+    })
+}
+
 /// What becomes of the call. Fails where its inputs are refused.
 pub fn made<R: ExtensionField<R> + MapFrom<R>>(
     alloc: Global,
@@ -38,26 +58,51 @@ pub fn made<R: ExtensionField<R> + MapFrom<R>>(
 {
     let point = point::<R>(alloc, &[2, 3, 5])?;
     let table = split::<R>(alloc, half, &point)?;
-    let (poly, packed) = (counted::<R>(alloc, 8)?, packed::<R>(alloc)?);
     let mut zeros = R::zero_vec(alloc, 8)?;
     let answered = match call {
         Call::New => gives_table(split(alloc, half, &point)),
         Call::TryClone => gives_table(table.try_clone(alloc)),
         Call::CloneHalf => clone_half(alloc, &table),
         Call::ToField => gives_table(table.to_field::<R>(alloc)),
-        Call::Materialize => {
-            gives_poly(
-                table.materialize(alloc),
-                &[-8, 10, 12, -15, 16, -20, -24, 30],
-            )
-        }
         Call::AccumulateIntoPacked => return accumulate_into_packed(alloc, &table),
-        Call::EvalPacked => gives(table.eval_packed(alloc, packed.as_view()), 20),
+        Call::EvalPacked => return eval_packed(alloc, &table),
+        Call::Materialize | Call::CompressPrefix | Call::CompressSuffix => {
+            return whole(alloc, call, &table);
+        }
+    };
+    Ok(judge(answered, has_weights(&table, zeros.as_mut_slice())))
+}
+
+/// What becomes of the compressions by the table, and of the table written out.
+fn whole<R: ExtensionField<R>>(
+    alloc: Global,
+    call: Call,
+    table: &SplitEq<R, R>,
+) -> Result<Outcome, AllocError>
+    requires { length (split_entries R.ring table.now) ≡ 8 }
+{
+    let poly = counted::<R>(alloc, 8)?;
+    let mut zeros = R::zero_vec(alloc, 8)?;
+    let answered = match call {
         Call::CompressPrefix => gives_poly(table.compress_prefix(alloc, poly.as_view()), &[20]),
         Call::CompressSuffix => gives_poly(table.compress_suffix(alloc, poly.as_view()), &[20]),
+        _ => gives_poly(table.materialize(alloc), &WEIGHTS),
     };
-    let kept = has_weights(&table, zeros.as_mut_slice()) && is_counted(&poly, 8);
+    let kept = has_weights(table, zeros.as_mut_slice()) && is_counted(&poly, 8);
     Ok(judge(answered, kept))
+}
+
+fn eval_packed<R: ExtensionField<R>>(
+    alloc: Global,
+    table: &SplitEq<R, R>,
+) -> Result<Outcome, AllocError>
+    requires lanes { R.Packing.WIDTH ≡ 4 }
+    requires table { length (split_entries R.ring table.now) ≡ 8 }
+{
+    let packed = packed::<R>(alloc)?;
+    let mut zeros = R::zero_vec(alloc, 8)?;
+    let answered = gives(table.eval_packed(alloc, packed.as_view()), 20);
+    Ok(judge(answered, has_weights(table, zeros.as_mut_slice())))
 }
 
 /// Whether the call gives a table of three variables that ends with the weight 30.
@@ -93,69 +138,4 @@ fn accumulate_into_packed<R: ExtensionField<R>>(
         ),
         Err(refused) => judge(Err(refused), has_lanes::<R>(out, &[1; 8])),
     })
-}
-
-#[test]
-fn split_table(rt: HostRuntime) -> Result<(), Fail> {
-    Split(Scalars, Call::New).tried(&rt, "SplitEq::new_unpacked")
-}
-
-#[test]
-fn packed_split_table(rt: HostRuntime) -> Result<(), Fail> {
-    Split(Lanes, Call::New).tried(&rt, "SplitEq::new_packed")
-}
-
-#[test]
-fn copied_split(rt: HostRuntime) -> Result<(), Fail> {
-    Split(Scalars, Call::TryClone).tried(&rt, "SplitEq::try_clone")
-}
-
-#[test]
-fn copied_half(rt: HostRuntime) -> Result<(), Fail> {
-    Split(Scalars, Call::CloneHalf).tried(&rt, "EqMaybePacked::try_clone")
-}
-
-#[test]
-fn copied_lanes(rt: HostRuntime) -> Result<(), Fail> {
-    Split(Lanes, Call::TryClone).tried(&rt, "SplitEq::try_clone of packed weights")
-}
-
-#[test]
-fn copied_half_of_lanes(rt: HostRuntime) -> Result<(), Fail> {
-    Split(Lanes, Call::CloneHalf).tried(&rt, "EqMaybePacked::try_clone of packed weights")
-}
-
-#[test]
-fn converted_split(rt: HostRuntime) -> Result<(), Fail> {
-    Split(Scalars, Call::ToField).tried(&rt, "SplitEq::to_field")
-}
-
-#[test]
-fn converted_lanes(rt: HostRuntime) -> Result<(), Fail> {
-    Split(Lanes, Call::ToField).tried(&rt, "SplitEq::to_field of packed weights")
-}
-
-#[test]
-fn whole_table(rt: HostRuntime) -> Result<(), Fail> {
-    Split(Scalars, Call::Materialize).tried(&rt, "SplitEq::materialize")
-}
-
-#[test]
-fn accumulated_lanes(rt: HostRuntime) -> Result<(), Fail> {
-    Split(Scalars, Call::AccumulateIntoPacked).tried(&rt, "SplitEq::accumulate_into_packed")
-}
-
-#[test]
-fn value_of_packed_entries(rt: HostRuntime) -> Result<(), Fail> {
-    Split(Scalars, Call::EvalPacked).tried(&rt, "SplitEq::eval_packed")
-}
-
-#[test]
-fn prefix_compressed(rt: HostRuntime) -> Result<(), Fail> {
-    Split(Scalars, Call::CompressPrefix).tried(&rt, "SplitEq::compress_prefix")
-}
-
-#[test]
-fn suffix_compressed(rt: HostRuntime) -> Result<(), Fail> {
-    Split(Scalars, Call::CompressSuffix).tried(&rt, "SplitEq::compress_suffix")
 }

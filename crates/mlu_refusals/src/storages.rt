@@ -2,16 +2,16 @@
 ghost use Rattle.std.specs.Prelude.{◌≡◌};
 
 use crate::answers::{gives, has_lanes};
+use crate::calls;
+use crate::calls::Call::Storage;
 use crate::given::Half::{self, Lanes, Scalars};
 use crate::given::Receiver::{self, Owner, View};
 use crate::given::{counted, is_counted, packed, point};
 use crate::outcome::{Outcome, judge};
-use crate::residues::Call::Storage;
 use mlu_point::point::Point;
 use mlu_ring::{ExtensionField, Field};
 use multilinear_util::poly::{Poly, PolyMaybePacked};
 use std::alloc::{AllocError, Global};
-use std::test::Fail;
 
 /// The calls that this file makes.
 #[derive(Clone, Copy)]
@@ -19,6 +19,20 @@ pub enum Call {
     Eval(Receiver),
     TryClone,
     Unpack,
+}
+
+/// The call with this name.
+pub fn named(name: &str) -> Option<calls::Call> {
+    Some(match name {
+        "PolyMaybePacked::eval" => Storage(Scalars, Call::Eval(Owner)),
+        "PolyMaybePackedView::eval" => Storage(Scalars, Call::Eval(View)),
+        "PolyMaybePacked::try_clone" => Storage(Scalars, Call::TryClone),
+        "PolyMaybePacked::unpack" => Storage(Lanes, Call::Unpack),
+        "PolyMaybePacked::eval of packed values" => Storage(Lanes, Call::Eval(Owner)),
+        "PolyMaybePackedView::eval of packed values" => Storage(Lanes, Call::Eval(View)),
+        "PolyMaybePacked::try_clone of packed values" => Storage(Lanes, Call::TryClone),
+        _ => return None,
+    })
 }
 
 /// What becomes of the call. Fails where its inputs are refused.
@@ -78,39 +92,4 @@ fn unpack<R: ExtensionField<R>>(alloc: Global, storage: PolyMaybePacked<R, R>) -
             judge(Err(refused), kept)
         }
     }
-}
-
-#[test]
-fn value_of_storage(rt: HostRuntime) -> Result<(), Fail> {
-    Storage(Scalars, Call::Eval(Owner)).tried(&rt, "PolyMaybePacked::eval")
-}
-
-#[test]
-fn value_of_borrowed_storage(rt: HostRuntime) -> Result<(), Fail> {
-    Storage(Scalars, Call::Eval(View)).tried(&rt, "PolyMaybePackedView::eval")
-}
-
-#[test]
-fn copied_storage(rt: HostRuntime) -> Result<(), Fail> {
-    Storage(Scalars, Call::TryClone).tried(&rt, "PolyMaybePacked::try_clone")
-}
-
-#[test]
-fn unpacked_storage(rt: HostRuntime) -> Result<(), Fail> {
-    Storage(Lanes, Call::Unpack).tried(&rt, "PolyMaybePacked::unpack")
-}
-
-#[test]
-fn value_of_packed_storage(rt: HostRuntime) -> Result<(), Fail> {
-    Storage(Lanes, Call::Eval(Owner)).tried(&rt, "PolyMaybePacked::eval of packed values")
-}
-
-#[test]
-fn value_of_borrowed_packed_storage(rt: HostRuntime) -> Result<(), Fail> {
-    Storage(Lanes, Call::Eval(View)).tried(&rt, "PolyMaybePackedView::eval of packed values")
-}
-
-#[test]
-fn copied_packed_storage(rt: HostRuntime) -> Result<(), Fail> {
-    Storage(Lanes, Call::TryClone).tried(&rt, "PolyMaybePacked::try_clone of packed values")
 }

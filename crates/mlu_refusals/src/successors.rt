@@ -1,17 +1,17 @@
 //! Weights that meet the next row, and values by them.
 
 use crate::answers::{gives, gives_poly};
+use crate::calls;
+use crate::calls::Call::Successor;
 use crate::given::Receiver::{self, Owner, View};
 use crate::given::{counted, is_counted, point};
 use crate::outcome::{Outcome, judge};
-use crate::residues::Call::Successor as Tried;
 use mlu_point::point::Point;
 use mlu_point::point::Successor::Wrap;
 use mlu_ring::{ExtensionField, Field};
 use mlu_test_support::numbers::are;
 use multilinear_util::poly::Poly;
 use std::alloc::{AllocError, Global};
-use std::test::Fail;
 
 /// The calls that this file makes; in those by a rule the rows go round.
 #[derive(Clone, Copy)]
@@ -20,6 +20,19 @@ pub enum Call {
     NewNextFromPointBy,
     EvalNextBase(Receiver),
     EvalNextBaseBy(Receiver),
+}
+
+/// The call with this name.
+pub fn named(name: &str) -> Option<calls::Call> {
+    Some(match name {
+        "Poly::new_next_from_point" => Successor(Call::NewNextFromPoint),
+        "Poly::eval_next_base" => Successor(Call::EvalNextBase(Owner)),
+        "PolyView::eval_next_base" => Successor(Call::EvalNextBase(View)),
+        "Poly::new_next_from_point_by" => Successor(Call::NewNextFromPointBy),
+        "Poly::eval_next_base_by" => Successor(Call::EvalNextBaseBy(Owner)),
+        "PolyView::eval_next_base_by" => Successor(Call::EvalNextBaseBy(View)),
+        _ => return None,
+    })
 }
 
 /// What becomes of the call. Fails where its inputs are refused.
@@ -44,34 +57,4 @@ pub fn made<R: ExtensionField<R>>(alloc: Global, call: Call) -> Result<Outcome, 
     };
     let kept = is_counted(&poly, 8) && are(point.as_slice(), &[2, 3, 5]);
     Ok(judge(answered, kept))
-}
-
-#[test]
-fn new_next_from_point(rt: HostRuntime) -> Result<(), Fail> {
-    Tried(Call::NewNextFromPoint).tried(&rt, "Poly::new_next_from_point")
-}
-
-#[test]
-fn eval_next_base_of_a_poly(rt: HostRuntime) -> Result<(), Fail> {
-    Tried(Call::EvalNextBase(Owner)).tried(&rt, "Poly::eval_next_base")
-}
-
-#[test]
-fn eval_next_base_of_a_view(rt: HostRuntime) -> Result<(), Fail> {
-    Tried(Call::EvalNextBase(View)).tried(&rt, "PolyView::eval_next_base")
-}
-
-#[test]
-fn new_next_from_point_by(rt: HostRuntime) -> Result<(), Fail> {
-    Tried(Call::NewNextFromPointBy).tried(&rt, "Poly::new_next_from_point_by")
-}
-
-#[test]
-fn eval_next_base_by_of_a_poly(rt: HostRuntime) -> Result<(), Fail> {
-    Tried(Call::EvalNextBaseBy(Owner)).tried(&rt, "Poly::eval_next_base_by")
-}
-
-#[test]
-fn eval_next_base_by_of_a_view(rt: HostRuntime) -> Result<(), Fail> {
-    Tried(Call::EvalNextBaseBy(View)).tried(&rt, "PolyView::eval_next_base_by")
 }

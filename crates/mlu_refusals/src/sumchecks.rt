@@ -6,14 +6,12 @@ ghost use Rattle.multilinear_util.specs.Split.{split_entries};
 use crate::given::Half::Scalars;
 use crate::given::{counted, has_weights, is_counted, point, split};
 use crate::outcome::{Outcome, judge};
-use crate::residues::Call::Sumcheck;
 use mlu_ring::{ExtensionField, Field, PrimeCharacteristicRing, SelfAlgebra};
 use mlu_sumcheck::run;
 use mlu_test_support::numbers::{are, element};
 use multilinear_util::poly::Poly;
 use multilinear_util::split_eq::SplitEq;
 use std::alloc::{AllocError, Global};
-use std::test::Fail;
 
 /// What becomes of the proof. Fails where its inputs are refused.
 pub fn made<R: ExtensionField<R> + SelfAlgebra>(alloc: Global) -> Result<Outcome, AllocError> {
@@ -42,9 +40,4 @@ fn proved<R: ExtensionField<R> + SelfAlgebra>(
     let transcript = run(alloc, poly, weights, challenges)?;
     let claims = transcript.claims.as_slice();
     Ok(claims.first() == Some(&element(20)) && claims.last() == Some(&element(53300)))
-}
-
-#[test]
-fn sumcheck_run(rt: HostRuntime) -> Result<(), Fail> {
-    Sumcheck.tried(&rt, "mlu_sumcheck::run")
 }

@@ -1,9 +1,11 @@
 //! Calls that ask for no memory, so that they do not fail whichever allocation is refused.
-ghost use Rattle.std.specs.Prelude.{◌≡◌};
+ghost use Rattle.std.specs.Prelude.{◌≡◌, ◌*◌, length};
+ghost use Rattle.multilinear_util.specs.Split.{split_entries};
 
-use crate::given::{counted, is_counted, point};
+use crate::calls;
+use crate::calls::Call::Unfailing;
+use crate::given::{WEIGHTS, counted, is_counted, point};
 use crate::outcome::{Outcome, judge};
-use crate::residues::Call::Unfailing;
 use mlu_point::eq_batch::{
     eval_eq_base_batch, eval_eq_base_batch_in_chunks, eval_eq_batch, eval_eq_batch_in_chunks,
 };
@@ -28,6 +30,19 @@ pub enum Call {
     SizeThatIsThere,
     Scalars,
     SplitInLanes,
+}
+
+/// The call with this name.
+pub fn named(name: &str) -> Option<calls::Call> {
+    Some(match name {
+        "batches of no points" => Unfailing(Call::NoPoints),
+        "points of no coordinates" => Unfailing(Call::EmptyPoint),
+        "Point::fill_equality_table_in_chunks in one chunk" => Unfailing(Call::WholeChunk),
+        "Poly::pad_zeros to the size that is there" => Unfailing(Call::SizeThatIsThere),
+        "PolyMaybePacked below the threshold" => Unfailing(Call::Scalars),
+        "SplitEq::accumulate_into_packed with packed weights" => Unfailing(Call::SplitInLanes),
+        _ => return None,
+    })
 }
 
 /// What becomes of the call. Fails where its inputs are refused.
@@ -84,8 +99,7 @@ fn whole_chunk<R: Field>(alloc: Global) -> Result<Outcome, AllocError> {
         3,
         &mut Unmetered::new(),
     );
-    let table = [-8, 10, 12, -15, 16, -20, -24, 30];
-    Ok(judge(Ok(done.is_ok()), are(out.as_slice(), &table)))
+    Ok(judge(Ok(done.is_ok()), are(out.as_slice(), &WEIGHTS)))
 }
 
 /// Zeros appended up to the size that is there.
@@ -115,42 +129,23 @@ fn split_in_lanes<R: ExtensionField<R>>(alloc: Global) -> Result<Outcome, AllocE
     let split = SplitEq::<R, R>::new_packed(alloc, &point, R::ONE)?;
     let mut out: Vec<R::ExtensionPacking> = elements(alloc, &[0; 4])?;
     let done = split.accumulate_into_packed(alloc, out.as_mut_slice(), None);
-    let last = R::ExtensionPacking::to_ext_iter(out.as_slice()).last();
-    let added = done.is_ok() && last == Some(element(16));
-    let sums = out.as_slice();
-    if !sums.len().is_power_of_two() {
-        return Err(AllocError);
-    }
-    let squares = split.eval_packed(alloc, PolyView::new(sums));
-    Ok(judge(Ok(added), squares == Ok(element(625))))
+    let added = done.is_ok() && last_lane::<R>(&out) == Some(element(16));
+    Ok(judge(Ok(added), has_squares::<R>(alloc, &split, &out)))
 }
 
-#[test]
-fn no_points_do_not_fail(rt: HostRuntime) {
-    assert!(rt; Unfailing(Call::NoPoints).is_served(rt.alloc()));
+/// The last lane of the last packed value.
+fn last_lane<R: ExtensionField<R>>(packed: &[R::ExtensionPacking]) -> Option<R> {
+    R::ExtensionPacking::to_ext_iter(packed).last()
 }
 
-#[test]
-fn empty_points(rt: HostRuntime) {
-    assert!(rt; Unfailing(Call::EmptyPoint).is_served(rt.alloc()));
-}
-
-#[test]
-fn tables_in_one_chunk(rt: HostRuntime) {
-    assert!(rt; Unfailing(Call::WholeChunk).is_served(rt.alloc()));
-}
-
-#[test]
-fn padded_to_its_size(rt: HostRuntime) {
-    assert!(rt; Unfailing(Call::SizeThatIsThere).is_served(rt.alloc()));
-}
-
-#[test]
-fn scalars_below_the_threshold(rt: HostRuntime) {
-    assert!(rt; Unfailing(Call::Scalars).is_served(rt.alloc()));
-}
-
-#[test]
-fn split_tables_in_lanes(rt: HostRuntime) {
-    assert!(rt; Unfailing(Call::SplitInLanes).is_served(rt.alloc()));
+/// Whether the table, paired with its packed entries, gives the sum of their squares, 625.
+fn has_squares<R: ExtensionField<R>>(
+    alloc: Global,
+    split: &SplitEq<R, R>,
+    packed: &[R::ExtensionPacking],
+) -> bool
+    requires { length packed.now * R.Packing.WIDTH ≡ length (split_entries R.ring split.now) }
+{
+    packed.len().is_power_of_two()
+        && split.eval_packed(alloc, PolyView::new(packed)) == Ok(element(625))
 }

@@ -2,15 +2,15 @@
 ghost use Rattle.std.specs.Prelude.{◌≡◌, length};
 
 use crate::answers::gives_list;
+use crate::calls;
+use crate::calls::Call::Weights;
 use crate::given::Receiver::{self, Owner, View};
-use crate::given::point;
+use crate::given::{WEIGHTS, point};
 use crate::outcome::{Outcome, judge, written};
-use crate::residues::Call::Weights;
 use mlu_point::point::{BitOrder, Point};
 use mlu_ring::{Counter, Field, PrimeCharacteristicRing};
 use mlu_test_support::numbers::{are, elements};
 use std::alloc::{AllocError, Global};
-use std::test::Fail;
 
 /// The calls that this file makes.
 #[derive(Clone, Copy)]
@@ -21,17 +21,30 @@ pub enum Call {
     FillInChunks(Receiver),
 }
 
-const MSB: [i32; 8] = [-8, 10, 12, -15, 16, -20, -24, 30];
-
 const LSB: [i32; 8] = [-8, 16, 12, -24, 10, -20, -15, 30];
+
+/// The call with this name.
+pub fn named(name: &str) -> Option<calls::Call> {
+    Some(match name {
+        "Point::equality_weights_msb" => Weights(Call::Msb(Owner)),
+        "Point::equality_weights_lsb" => Weights(Call::Lsb(Owner)),
+        "Point::equality_weights_metered" => Weights(Call::Metered(Owner)),
+        "Point::fill_equality_table_in_chunks" => Weights(Call::FillInChunks(Owner)),
+        "PointView::equality_weights_msb" => Weights(Call::Msb(View)),
+        "PointView::equality_weights_lsb" => Weights(Call::Lsb(View)),
+        "PointView::equality_weights_metered" => Weights(Call::Metered(View)),
+        "PointView::fill_equality_table_in_chunks" => Weights(Call::FillInChunks(View)),
+        _ => return None,
+    })
+}
 
 /// What becomes of the call. Fails where its inputs are refused.
 pub fn made<R: Field>(alloc: Global, call: Call) -> Result<Outcome, AllocError> {
     let point = point::<R>(alloc, &[2, 3, 5])?;
     let view = point.as_view();
     let answered = match call {
-        Call::Msb(Owner) => gives_list(point.equality_weights_msb(alloc), &MSB),
-        Call::Msb(View) => gives_list(view.equality_weights_msb(alloc), &MSB),
+        Call::Msb(Owner) => gives_list(point.equality_weights_msb(alloc), &WEIGHTS),
+        Call::Msb(View) => gives_list(view.equality_weights_msb(alloc), &WEIGHTS),
         Call::Lsb(Owner) => gives_list(point.equality_weights_lsb(alloc), &LSB),
         Call::Lsb(View) => gives_list(view.equality_weights_lsb(alloc), &LSB),
         Call::Metered(receiver) => return Ok(metered(alloc, receiver, &point)),
@@ -80,44 +93,4 @@ fn fill_in_chunks<R: Field>(
     }
     let after = [-16, 20, 24, -30, 32, -40, -48, 60];
     Ok(written(done, out.as_slice(), &after, &[9; 8]))
-}
-
-#[test]
-fn equality_weights_msb(rt: HostRuntime) -> Result<(), Fail> {
-    Weights(Call::Msb(Owner)).tried(&rt, "Point::equality_weights_msb")
-}
-
-#[test]
-fn equality_weights_lsb(rt: HostRuntime) -> Result<(), Fail> {
-    Weights(Call::Lsb(Owner)).tried(&rt, "Point::equality_weights_lsb")
-}
-
-#[test]
-fn equality_weights_metered(rt: HostRuntime) -> Result<(), Fail> {
-    Weights(Call::Metered(Owner)).tried(&rt, "Point::equality_weights_metered")
-}
-
-#[test]
-fn fill_equality_table_in_chunks(rt: HostRuntime) -> Result<(), Fail> {
-    Weights(Call::FillInChunks(Owner)).tried(&rt, "Point::fill_equality_table_in_chunks")
-}
-
-#[test]
-fn equality_weights_msb_of_a_view(rt: HostRuntime) -> Result<(), Fail> {
-    Weights(Call::Msb(View)).tried(&rt, "PointView::equality_weights_msb")
-}
-
-#[test]
-fn equality_weights_lsb_of_a_view(rt: HostRuntime) -> Result<(), Fail> {
-    Weights(Call::Lsb(View)).tried(&rt, "PointView::equality_weights_lsb")
-}
-
-#[test]
-fn equality_weights_metered_of_a_view(rt: HostRuntime) -> Result<(), Fail> {
-    Weights(Call::Metered(View)).tried(&rt, "PointView::equality_weights_metered")
-}
-
-#[test]
-fn fill_equality_table_of_a_view(rt: HostRuntime) -> Result<(), Fail> {
-    Weights(Call::FillInChunks(View)).tried(&rt, "PointView::fill_equality_table_in_chunks")
 }

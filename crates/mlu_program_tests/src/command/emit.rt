@@ -96,13 +96,12 @@ fn line(alloc: Global) -> Result<Vec<u8>, AllocError> {
 }
 
 #[test]
-fn the_line_reaches_one_writer(rt: HostRuntime) {
-    if let Ok(line) = line(rt.alloc()) {
-        let (mut out, mut err) = (Slow::new(99), Slow::new(99));
-        assert_eq!(rt; emit(Ok(line), &mut out, &mut err), 0);
-        assert_eq!(rt; out.flushed(), b"8\n".as_slice());
-        assert_eq!(rt; err.taken, 0);
-    }
+fn the_line_reaches_one_writer(rt: HostRuntime) -> Result<(), Fail> {
+    let (mut out, mut err) = (Slow::new(99), Slow::new(99));
+    assert_eq!(rt; emit(Ok(line(rt.alloc())?), &mut out, &mut err), 0);
+    assert_eq!(rt; out.flushed(), b"8\n".as_slice());
+    assert_eq!(rt; err.taken, 0);
+    Ok(())
 }
 
 #[test]
@@ -125,11 +124,8 @@ fn the_text_reaches_the_other(rt: HostRuntime) {
 #[test]
 fn a_write_or_the_flush_fails(rt: HostRuntime) -> Result<(), Fail> {
     for left in 0..3 {
-        let Ok(line) = line(rt.alloc()) else {
-            return Ok(());
-        };
         let (mut out, mut err) = (Slow::new(left), Slow::new(99));
-        assert_eq!(rt; emit(Ok(line), &mut out, &mut err), 4);
+        assert_eq!(rt; emit(Ok(line(rt.alloc())?), &mut out, &mut err), 4);
         assert_eq!(rt; err.taken, 0);
     }
     for left in 0..12 {
@@ -141,12 +137,11 @@ fn a_write_or_the_flush_fails(rt: HostRuntime) -> Result<(), Fail> {
 }
 
 #[test]
-fn nothing_follows_a_failure(rt: HostRuntime) {
+fn nothing_follows_a_failure(rt: HostRuntime) -> Result<(), Fail> {
     for fails_at in 0..2 {
-        if let Ok(line) = line(rt.alloc()) {
-            let (mut out, mut err) = (Once::new(fails_at), Once::new(99));
-            assert_eq!(rt; emit(Ok(line), &mut out, &mut err), 4);
-            assert_eq!(rt; (out.calls, err.calls), (fails_at + 1, 0));
-        }
+        let (mut out, mut err) = (Once::new(fails_at), Once::new(99));
+        assert_eq!(rt; emit(Ok(line(rt.alloc())?), &mut out, &mut err), 4);
+        assert_eq!(rt; (out.calls, err.calls), (fails_at + 1, 0));
     }
+    Ok(())
 }
