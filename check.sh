@@ -20,15 +20,15 @@ proofs=${RT_JOBS:-$((places < 4 ? 2 : 3))}
 room=$(mktemp -d)
 trap 'rm -rf "$room"' EXIT
 
-# In each run of mlu_refusals this allocation fails; ahead of its call a run makes 0, 1, .. so many others.
+# In each run of mlu_refusals this allocation fails.
 failing=22
-most=21
 
 # Makes each call of mlu_refusals with each of its allocations refused in turn, in as many processes as there are
-# processors. Each call that takes memory must be refused in some run and served in another, and in those with
-# most allocations ahead one of these must be what fails, so that no allocation of a call is left out.
+# processors: ahead of its call a run makes 0, 1, .. other allocations. Each call that takes memory must be refused
+# in some run and served in another, and in those with most allocations ahead one of these must be what fails, so
+# that no allocation of a call is left out.
 refusals() {
-  local folder=crates/mlu_refusals ahead line asked part runs ended early
+  local folder=crates/mlu_refusals most=$((failing - 1)) ahead line asked part runs ended early
   for ((ahead = 0; ahead <= most; ahead++)); do
     part=$room/cases.$((ahead % places))
     mkdir -p "$part"

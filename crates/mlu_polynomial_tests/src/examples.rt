@@ -54,11 +54,6 @@ fn batches(rt: HostRuntime) -> Result<(), Fail> {
     let columns = RowMajorMatrixView::new(&points, 3);
     eval_eq_batch::<BabyBear<4>, _, false>(rt.alloc(), columns, &mut out, &scalars)?;
     assert!(rt; out == [0, 3, 2, 5].map(BabyBear::from_u32));
-    Ok(())
-}
-
-#[test]
-fn batches_in_chunks(rt: HostRuntime) -> Result<(), Fail> {
     // one point, its table added in two chunks
     let point = [2, 3].map(BabyBear::<4>::from_u32);
     let mut out = [BabyBear::<4>::ONE; 4];
@@ -99,25 +94,15 @@ fn polynomials(rt: HostRuntime) -> Result<(), Fail> {
 }
 
 #[test]
-fn compressions(rt: HostRuntime) -> Result<(), Fail> {
-    let entries = [1, 2, 3, 4].map(BabyBear::<4>::from_u32);
-    let evals = Vec::from_slice(rt.alloc(), &entries)?;
-    assert!(rt; evals.len().is_power_of_two());
-    let poly = Poly::new(evals);
-    let [two, five] = [2, 5].map(BabyBear::<4>::from_u32);
-    let first = Point::new(Vec::from_slice(rt.alloc(), &[two])?);
-    let left = poly.compress_prefix(rt.alloc(), &first, five)?;
-    assert!(rt; left.as_slice() == [25, 30].map(BabyBear::from_u32).as_slice());
-    Ok(())
-}
-
-#[test]
 fn split_tables(rt: HostRuntime) -> Result<(), Fail> {
     let entries = [1, 2, 3, 4].map(BabyBear::<4>::from_u32);
     let evals = Vec::from_slice(rt.alloc(), &entries)?;
     assert!(rt; evals.len().is_power_of_two());
     let poly = Poly::new(evals);
     let [two, three, five] = [2, 3, 5].map(BabyBear::<4>::from_u32);
+    let first = Point::new(Vec::from_slice(rt.alloc(), &[two])?);
+    let left = poly.compress_prefix(rt.alloc(), &first, five)?;
+    assert!(rt; left.as_slice() == [25, 30].map(BabyBear::from_u32).as_slice());
     let point = Point::new(Vec::from_slice(rt.alloc(), &[two, three])?);
     let split = SplitEq::<BabyBear<4>, BabyBear<4>>::new_packed(rt.alloc(), &point, five)?;
     assert_eq!(rt; split.eval_base(poly.as_view()).as_canonical_u32(), 40);

@@ -6,6 +6,9 @@
 //! nothing where the inputs were refused. `check.sh` has the same allocation of each run fail, on a line each, so
 //! that the number decides which of the call's is refused.
 //!
+//! Status 1: an outcome is wrong, or a line names no call. 3: memory was refused outside the call. 4: standard
+//! input can't be read, or a write failed.
+//!
 //! Calls stand by their subject, in functions over any rings: `made` builds the inputs, and fails
 //! only where these are refused. Then one arm makes the call, and `answers` says whether it is right.
 #![tactic(auto)]
@@ -24,7 +27,6 @@ mod points;
 mod polys;
 mod residues;
 mod splits;
-mod stop;
 mod storages;
 mod streams;
 mod successors;
@@ -36,7 +38,6 @@ mod weights;
 use crate::calls::Call;
 use crate::outcome::Outcome;
 use crate::residues::residues;
-use crate::stop::Stop;
 use std::alloc::{AllocError, Global};
 use std::io;
 use std::process::ExitCode;
@@ -65,34 +66,45 @@ fn tried(alloc: Global, call: Call) -> Result<Outcome, AllocError> {
     }
 }
 
-/// Makes the call of the line, and says what became of it; nothing where its inputs were refused.
-fn answer(rt: &HostRuntime, line: &str) -> Result<(), Stop> {
-    let (ahead, asked) = line.split_once(' ').ok_or(Stop::Usage)?;
-    let (file, name) = asked.split_once(' ').ok_or(Stop::Usage)?;
-    let ahead = ahead.parse::<usize>().map_err(|_| Stop::Usage)?;
-    let call = Call::named(file, name).ok_or(Stop::Usage)?;
+/// How many other allocations the line asks for, what it asks, and the call that this names.
+fn read(line: &str) -> Option<(usize, &str, Call)> {
+    let (ahead, asked) = line.split_once(' ')?;
+    let (file, name) = asked.split_once(' ')?;
+    Some((ahead.parse().ok()?, asked, Call::named(file, name)?))
+}
+
+/// Makes the call of the line, and says what became of it; nothing where its inputs were refused. Answers
+/// whether that is right: false too where the line names no call.
+fn answer(rt: &HostRuntime, line: &str) -> io::Result<bool> {
+    let Some((ahead, asked, call)) = read(line) else {
+        return Ok(false);
+    };
     allocate(rt.alloc(), ahead)?;
     match tried(rt.alloc(), call)? {
         Outcome::Served if call.takes_memory() => println!(rt; "served {asked}")?,
         Outcome::Refused if call.takes_memory() => println!(rt; "refused {asked}")?,
         Outcome::Served => println!(rt; "takes none: {asked}")?,
-        _ => return Err(Stop::Wrong),
+        _ => return Ok(false),
     }
-    Ok(())
+    Ok(true)
 }
 
-/// Makes the calls of all lines.
-fn run(rt: &HostRuntime) -> Result<(), Stop> {
+/// Makes the calls of all lines, as far as they are right.
+fn run(rt: &HostRuntime) -> io::Result<bool> {
     let input = io::read_to_string(rt.alloc(), rt.reader())?;
     for line in input.lines() {
-        answer(rt, line)?;
+        if !answer(rt, line)? {
+            return Ok(false);
+        }
     }
-    Ok(())
+    Ok(true)
 }
 
 fn main(rt: HostRuntime) -> ExitCode {
     ExitCode::from(match run(&rt) {
-        Ok(()) => 0,
-        Err(stop) => stop.status(),
+        Ok(true) => 0,
+        Ok(false) => 1,
+        Err(error) if error.kind() == io::ErrorKind::OutOfMemory => 3,
+        Err(_) => 4,
     })
 }

@@ -58,51 +58,21 @@ pub fn made<R: ExtensionField<R> + MapFrom<R>>(
 {
     let point = point::<R>(alloc, &[2, 3, 5])?;
     let table = split::<R>(alloc, half, &point)?;
+    let (poly, packed) = (counted::<R>(alloc, 8)?, packed::<R>(alloc)?);
     let mut zeros = R::zero_vec(alloc, 8)?;
     let answered = match call {
         Call::New => gives_table(split(alloc, half, &point)),
         Call::TryClone => gives_table(table.try_clone(alloc)),
         Call::CloneHalf => clone_half(alloc, &table),
         Call::ToField => gives_table(table.to_field::<R>(alloc)),
+        Call::Materialize => gives_poly(table.materialize(alloc), &WEIGHTS),
         Call::AccumulateIntoPacked => return accumulate_into_packed(alloc, &table),
-        Call::EvalPacked => return eval_packed(alloc, &table),
-        Call::Materialize | Call::CompressPrefix | Call::CompressSuffix => {
-            return whole(alloc, call, &table);
-        }
-    };
-    Ok(judge(answered, has_weights(&table, zeros.as_mut_slice())))
-}
-
-/// What becomes of the compressions by the table, and of the table written out.
-fn whole<R: ExtensionField<R>>(
-    alloc: Global,
-    call: Call,
-    table: &SplitEq<R, R>,
-) -> Result<Outcome, AllocError>
-    requires { length (split_entries R.ring table.now) ≡ 8 }
-{
-    let poly = counted::<R>(alloc, 8)?;
-    let mut zeros = R::zero_vec(alloc, 8)?;
-    let answered = match call {
+        Call::EvalPacked => gives(table.eval_packed(alloc, packed.as_view()), 20),
         Call::CompressPrefix => gives_poly(table.compress_prefix(alloc, poly.as_view()), &[20]),
         Call::CompressSuffix => gives_poly(table.compress_suffix(alloc, poly.as_view()), &[20]),
-        _ => gives_poly(table.materialize(alloc), &WEIGHTS),
     };
-    let kept = has_weights(table, zeros.as_mut_slice()) && is_counted(&poly, 8);
+    let kept = has_weights(&table, zeros.as_mut_slice()) && is_counted(&poly, 8);
     Ok(judge(answered, kept))
-}
-
-fn eval_packed<R: ExtensionField<R>>(
-    alloc: Global,
-    table: &SplitEq<R, R>,
-) -> Result<Outcome, AllocError>
-    requires lanes { R.Packing.WIDTH ≡ 4 }
-    requires table { length (split_entries R.ring table.now) ≡ 8 }
-{
-    let packed = packed::<R>(alloc)?;
-    let mut zeros = R::zero_vec(alloc, 8)?;
-    let answered = gives(table.eval_packed(alloc, packed.as_view()), 20);
-    Ok(judge(answered, has_weights(table, zeros.as_mut_slice())))
 }
 
 /// Whether the call gives a table of three variables that ends with the weight 30.

@@ -44,69 +44,59 @@ pub fn made<R: ExtensionField<R>>(alloc: Global, call: Call) -> Result<Outcome, 
     match call {
         Call::PrefixToPacked | Call::PrefixShifted | Call::SuffixShifted => {
             let split = split::<R>(alloc, Scalars, &point(alloc, &[2])?)?;
-            let poly = counted(alloc, 8)?;
-            let answered = of_one_run(alloc, call, &poly, &split);
-            Ok(judge(answered, is_counted(&poly, 8)))
+            compressed(alloc, call, &counted(alloc, 8)?, &split)
         }
         _ => {
             let split = split::<R>(alloc, Scalars, &point(alloc, &[2, 2])?)?;
-            let poly = counted(alloc, 16)?;
-            let answered = in_runs(alloc, call, &poly, &split);
-            Ok(judge(answered, is_counted(&poly, 16)))
+            compressed(alloc, call, &counted(alloc, 16)?, &split)
         }
     }
 }
 
-/// Whether the compression of this polynomial in one run is right.
-fn of_one_run<R: ExtensionField<R>>(
+/// The same, for this polynomial and this table.
+fn compressed<R: ExtensionField<R>>(
     alloc: Global,
     call: Call,
     poly: &Poly<R>,
     split: &SplitEq<R, R>,
-) -> Result<bool, AllocError>
+) -> Result<Outcome, AllocError>
     requires lanes { R.Packing.WIDTH ≡ 4 }
     requires sizes { length (split_entries R.ring split.now) * 4 ≤ length poly.now }
 {
     let view = poly.as_view();
-    match call {
+    let answered = match call {
         Call::PrefixToPacked => {
-            let left = split.compress_prefix_to_packed(alloc, view);
-            gives_lanes::<R>(left, &[9, 10, 11, 12])
+            gives_lanes::<R>(
+                split.compress_prefix_to_packed(alloc, view),
+                &[9, 10, 11, 12],
+            )
         }
         Call::PrefixShifted => {
-            let left = split.compress_prefix_shifted(alloc, view);
-            gives_poly(left, &[-5, -6, -7, -8])
+            gives_poly(
+                split.compress_prefix_shifted(alloc, view),
+                &[-5, -6, -7, -8],
+            )
         }
-        _ => {
-            let left = split.compress_suffix_shifted(alloc, view);
-            gives_poly(left, &[-2, -4, -6, -8])
+        Call::SuffixShifted => {
+            gives_poly(
+                split.compress_suffix_shifted(alloc, view),
+                &[-2, -4, -6, -8],
+            )
         }
-    }
-}
-
-/// Whether the compression of this polynomial in two runs is right.
-fn in_runs<R: ExtensionField<R>>(
-    alloc: Global,
-    call: Call,
-    poly: &Poly<R>,
-    split: &SplitEq<R, R>,
-) -> Result<bool, AllocError>
-    requires lanes { R.Packing.WIDTH ≡ 4 }
-    requires sizes { length (split_entries R.ring split.now) * 4 ≤ length poly.now }
-{
-    let view = poly.as_view();
-    match call {
         Call::PrefixInRuns => {
-            let left = split.compress_prefix_split(alloc, view, 2);
-            gives_poly(left, &[25, 26, 27, 28])
+            gives_poly(
+                split.compress_prefix_split(alloc, view, 2),
+                &[25, 26, 27, 28],
+            )
         }
         Call::PrefixToPackedInRuns => {
             let left = split.compress_prefix_to_packed_split(alloc, view, 2);
             gives_lanes::<R>(left, &[25, 26, 27, 28])
         }
-        _ => {
+        Call::PrefixShiftedInRuns => {
             let left = split.compress_prefix_shifted_split(alloc, view, 2);
             gives_poly(left, &[-39, -42, -45, -48])
         }
-    }
+    };
+    Ok(judge(answered, is_counted(poly, poly.num_evals())))
 }

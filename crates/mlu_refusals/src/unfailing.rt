@@ -1,6 +1,5 @@
 //! Calls that ask for no memory, so that they do not fail whichever allocation is refused.
-ghost use Rattle.std.specs.Prelude.{◌≡◌, ◌*◌, length};
-ghost use Rattle.multilinear_util.specs.Split.{split_entries};
+ghost use Rattle.std.specs.Prelude.{◌≡◌};
 
 use crate::calls;
 use crate::calls::Call::Unfailing;
@@ -129,23 +128,12 @@ fn split_in_lanes<R: ExtensionField<R>>(alloc: Global) -> Result<Outcome, AllocE
     let split = SplitEq::<R, R>::new_packed(alloc, &point, R::ONE)?;
     let mut out: Vec<R::ExtensionPacking> = elements(alloc, &[0; 4])?;
     let done = split.accumulate_into_packed(alloc, out.as_mut_slice(), None);
-    let added = done.is_ok() && last_lane::<R>(&out) == Some(element(16));
-    Ok(judge(Ok(added), has_squares::<R>(alloc, &split, &out)))
-}
-
-/// The last lane of the last packed value.
-fn last_lane<R: ExtensionField<R>>(packed: &[R::ExtensionPacking]) -> Option<R> {
-    R::ExtensionPacking::to_ext_iter(packed).last()
-}
-
-/// Whether the table, paired with its packed entries, gives the sum of their squares, 625.
-fn has_squares<R: ExtensionField<R>>(
-    alloc: Global,
-    split: &SplitEq<R, R>,
-    packed: &[R::ExtensionPacking],
-) -> bool
-    requires { length packed.now * R.Packing.WIDTH ≡ length (split_entries R.ring split.now) }
-{
-    packed.len().is_power_of_two()
-        && split.eval_packed(alloc, PolyView::new(packed)) == Ok(element(625))
+    let last = R::ExtensionPacking::to_ext_iter(out.as_slice()).last();
+    let added = done.is_ok() && last == Some(element(16));
+    let sums = out.as_slice();
+    if !sums.len().is_power_of_two() {
+        return Err(AllocError);
+    }
+    let squares = split.eval_packed(alloc, PolyView::new(sums));
+    Ok(judge(Ok(added), squares == Ok(element(625))))
 }

@@ -41,28 +41,22 @@ where
     is_printed(alloc, &packed, lanes)
 }
 
-/// Whether the split table of the point (0, 1, 1), times 3, prints as it must with scalars in its second half.
-fn prints_scalar_half<R: ExtensionField<R> + Debug>(alloc: Global) -> Result<bool, AllocError>
+/// Whether both split tables of the point (0, 1, 1), times 3, print as they must.
+fn prints_halves<R: ExtensionField<R> + Debug>(alloc: Global) -> Result<bool, AllocError>
 where
     R::ExtensionPacking: Debug,
 {
     let point = point::<R>(alloc, &[0, 1, 1])?;
-    let split = SplitEq::<R, R>::new_unpacked(alloc, &point, element(3))?;
-    let text = "SplitEq { eq0: Poly { evals: [BabyBear { value: 3 }, BabyBear { value: 0 }] }, \
+    let unpacked = SplitEq::<R, R>::new_unpacked(alloc, &point, element(3))?;
+    let packed = SplitEq::<R, R>::new_packed(alloc, &point, element(3))?;
+    let scalars = "SplitEq { eq0: Poly { evals: [BabyBear { value: 3 }, BabyBear { value: 0 }] }, \
         eq1: EqMaybePacked { weights: Scalar(Table { values: ";
-    is_printed(alloc, &split, (text, WEIGHTS, " }) } }"))
-}
-
-/// The same, with packed weights in its second half.
-fn prints_packed_half<R: ExtensionField<R> + Debug>(alloc: Global) -> Result<bool, AllocError>
-where
-    R::ExtensionPacking: Debug,
-{
-    let point = point::<R>(alloc, &[0, 1, 1])?;
-    let split = SplitEq::<R, R>::new_packed(alloc, &point, element(3))?;
-    let text = "SplitEq { eq0: Poly { evals: [BabyBear { value: 3 }, BabyBear { value: 0 }] }, \
+    let lanes = "SplitEq { eq0: Poly { evals: [BabyBear { value: 3 }, BabyBear { value: 0 }] }, \
         eq1: EqMaybePacked { weights: Packed(Table { values: [Lanes { values: ";
-    is_printed(alloc, &split, (text, WEIGHTS, " }] }) } }"))
+    Ok(
+        is_printed(alloc, &unpacked, (scalars, WEIGHTS, " }) } }"))?
+            && is_printed(alloc, &packed, (lanes, WEIGHTS, " }] }) } }"))?,
+    )
 }
 
 /// Whether 3, 4, 5, 6 in both storages, and split tables, print as they must.
@@ -78,8 +72,7 @@ where
     Ok(
         prints_scalars::<R>(alloc, poly)?
             && prints_lanes::<R>(alloc, packed)?
-            && prints_scalar_half::<R>(alloc)?
-            && prints_packed_half::<R>(alloc)?,
+            && prints_halves::<R>(alloc)?,
     )
 }
 
