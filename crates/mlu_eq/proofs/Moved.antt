@@ -49,12 +49,6 @@ group_within (suc q) (suc m) n r h k =
     let before : q < m = group_within q m n (r - n) (omega (arith, h)) (omega (arith, h, k)) in
     omega (arith, before)
 
--- all places but the first of n
-pub length-later : {A : Type 0} (xs : List A) (n : ℕ) → 0 < n → length xs ≡ n → length (take (n - 1) (drop 1 xs)) + 1 ≡ n
-length-later xs n some size =
-    let left : n - 1 ≤ length (drop 1 xs) = omega (arith, length-drop 1 xs, size) in
-    omega (arith, length-take-le (n - 1) (drop 1 xs) left, some)
-
 module _ {V W : Type 0} (f : V → W → V) where
   -- the first place takes t, and each of the later ones, written over, the weight before its own
   pub zip_moved : (h : W → W) (out written : List V) (w : List W) (n : ℕ) (t : W) (x s : V) → 0 < n → n ≡ length w → length out ≡ length w → x ≡ get_or out 0 x → s ≡ f x t

@@ -1,19 +1,9 @@
-use Rattle.std.proofs.Common.{◌≡◌, ◌≤◌, ◌+◌, ◌*◌, ◌^◌, ◌<◌, ◌++◌, ◌∙◌, length, map, take, ap, sym, arith, rules}
+use Rattle.std.proofs.Common.{◌≡◌, ◌+◌, ◌*◌, ◌^◌, ◌<◌, ◌++◌, ◌∙◌, length, map, take, ap, sym, arith, rules}
 use Rattle.std.proofs.lemmas.List.{length-map, map-append, take_all}
-use Rattle.std.proofs.Math.Nat.{mul-le-mul_right}
 use Rattle.mlu_ring.specs.Lanes.{logical}
 use Rattle.mlu_ring.proofs.Logical.{length-logical, logical-take_more}
 use Rattle.mlu_eq.proofs.Lengths.{power_of_lanes}
 use Rattle.mlu_eq.proofs.half.lane_images.Goals as goal
-
-pub push_lane_images-requires : goal.push_lane_images-requires
-push_lane_images-requires g c =
-    let width = g.F.Packing.PackedValue.WIDTH in
-    let len = c.loop-value.invariant.len in
-    let capacity = c.loop-value.invariant.capacity in
-    let next : c.loop-value.value-index * width + width ≡ (c.loop-value.value-index + 1) * width = omega arith in
-    let room = mul-le-mul_right width (let le : c.loop-value.value-index + 1 ≤ length c.args.packed.now = omega (arith, c.loop-value-test.true) in le) in
-    omega (arith, len, capacity, next, room)
 
 pub loop-value-preserved : goal.loop-value-preserved
 loop-value-preserved g c =

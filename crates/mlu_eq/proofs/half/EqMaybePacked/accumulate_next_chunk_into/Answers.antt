@@ -1,17 +1,8 @@
-use Rattle.std.proofs.Common.{◌∙◌, map, set, sym, ap}
+use Rattle.std.proofs.Common.{◌∙◌, map, ap}
 use Rattle.std.specs.Simd.Lanes.{zip2}
-use Rattle.std.proofs.lemmas.List.{length-set}
 use Rattle.mlu_ring.specs.Successor.{moved_up}
-use Rattle.mlu_eq.proofs.Moved.{length-later, zip_moved, zip_sums}
+use Rattle.mlu_eq.proofs.Moved.{zip_moved, zip_sums}
 use Rattle.mlu_eq.proofs.half.EqMaybePacked.accumulate_next_chunk_into.Goals as goal
-
-pub add_leading-requires : goal.add_leading-requires
-add_leading-requires g c =
-    let places = c.num_scalar_evals-places.result in
-    let row = c.add_weights.new.row in
-    let same = c.num_scalar_evals-places.ensures.value in
-    let size = length-set row 0 c.add.result ∙ c.add_weights.auto.row ∙ c.requires ∙ sym same in
-    length-later (set row 0 c.add.result) places c.num_scalar_evals-places.ensures.some size ∙ same
 
 pub returns : goal.returns
 returns g c =

@@ -12,9 +12,6 @@ loop-i-init g c =
     no_weight g.EF.ExtensionPacking.Additive.ring g.EF.Additive.ring g.met.EF.Additive.laws ext.ext_lanes ext.of_ext_lanes g.F.Packing.PackedValue.WIDTH met.lanes_are met.lane_by_lane
     c.ZERO-sum.result c.args.entries.now (c.ZERO-sum.ensures ∙ g.met.EF.ExtensionPacking.Additive.zero_is)
 
-pub from_ext_slice-group-requires : goal.from_ext_slice-group-requires
-from_ext_slice-group-requires g c = c.row_of.ensures.size g.F.Packing.PackedValue.WIDTH c.requires
-
 pub loop-i-preserved : goal.loop-i-preserved
 loop-i-preserved g c =
     let ext = g.EF.ExtensionPacking.PackedFieldExtension in

@@ -8,11 +8,6 @@ use Rattle.mlu_eq.proofs.split.prefix.add_group_rows.Goals as goal
 pub loop-k-init : goal.loop-k-init
 loop-k-init g c = sym (plus_rows-none g.EF.Additive.ring g.met.EF.Additive.laws c.args.out.now [] (map g.EF.Algebra.embed c.args.rows.now) (omega arith))
 
-pub add_scalar_row-requires : goal.add_scalar_row-requires
-add_scalar_row-requires g c =
-    let r = length c.args.out.now in
-    c.row_of.ensures.size r (c.requires ∙ ap (λ k. k * r) (sym c.WIDTH.ensures)) ∙ sym c.loop-k.auto.out
-
 pub loop-k-preserved : goal.loop-k-preserved
 loop-k-preserved g c =
     let ring = g.EF.Additive.ring in

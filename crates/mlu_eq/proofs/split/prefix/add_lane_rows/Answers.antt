@@ -9,11 +9,6 @@ use Rattle.mlu_eq.proofs.split.prefix.add_lane_rows.Goals as goal
 pub loop-i-init : goal.loop-i-init
 loop-i-init g c = sym (plus_rows-none g.EF.Additive.ring g.met.EF.Additive.laws c.args.out.now [] (map g.EF.Algebra.embed c.args.rows.now) (omega arith))
 
-pub add_group_rows-requires : goal.add_group_rows-requires
-add_group_rows-requires g c =
-    let n = g.F.Packing.PackedValue.WIDTH in
-    c.row_of.ensures.size (n * length c.args.out.now) c.requires ∙ ap (λ k. n * k) (sym c.loop-i.auto.out)
-
 pub loop-i-preserved : goal.loop-i-preserved
 loop-i-preserved g c =
     let ring = g.EF.Additive.ring in

@@ -9,9 +9,6 @@ use Rattle.mlu_eq.proofs.split.prefix.add_scalar_rows.Goals as goal
 pub loop-i-init : goal.loop-i-init
 loop-i-init g c = sym (plus_rows-none g.EF.Additive.ring g.met.EF.Additive.laws c.args.out.now [] (map g.EF.Algebra.embed c.args.rows.now) (omega arith))
 
-pub add_scalar_row-requires : goal.add_scalar_row-requires
-add_scalar_row-requires g c = c.row_of.ensures.size (length c.args.out.now) c.requires ∙ sym c.loop-i.auto.out
-
 pub loop-i-preserved : goal.loop-i-preserved
 loop-i-preserved g c =
     let ring = g.EF.Additive.ring in

@@ -13,11 +13,6 @@ loop-i-init g c =
     let old = logical g.EF.ExtensionPacking.PackedFieldExtension.ext_lanes c.args.out.now in
     sym (plus_rows-none g.EF.Additive.ring g.met.EF.Additive.laws old [] (map g.EF.Algebra.embed c.args.rows.now) (omega arith))
 
-pub add_row_times-requires : goal.add_row_times-requires
-add_row_times-requires g c =
-    let n = g.F.Packing.PackedValue.WIDTH in
-    c.row_of-row.ensures.size (length c.args.out.now * n) c.requires ∙ ap (λ k. k * n) (sym c.loop-i.auto.out)
-
 pub loop-i-preserved : goal.loop-i-preserved
 loop-i-preserved g c =
     let ring = g.EF.Additive.ring in

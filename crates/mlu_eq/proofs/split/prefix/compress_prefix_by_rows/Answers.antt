@@ -14,11 +14,6 @@ loop-j-init g c =
     let ring = g.EF.Additive.ring in
     sym (plus_rows-none ring g.met.EF.Additive.laws c.args.out.now (contents ring [] w) (map g.EF.Algebra.embed c.args.entries.now) (ap (λ k. k * length c.args.out.now) (length-contents ring [] w) ∙ omega arith))
 
-pub add_rows-requires : goal.add_rows-requires
-add_rows-requires g c =
-    let w = c.args.eq1.now.weights in
-    c.row_of.ensures.size (length w * length c.args.out.now) c.requires ∙ ap (λ k. length w * k) (sym c.loop-j.auto.out)
-
 pub loop-j-preserved : goal.loop-j-preserved
 loop-j-preserved g c =
     let w = c.args.eq1.now.weights in

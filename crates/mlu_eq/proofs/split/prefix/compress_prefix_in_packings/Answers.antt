@@ -1,22 +1,13 @@
-use Rattle.std.proofs.Common.{◌≡◌, ◌*◌, ◌/◌, ◌≤◌, ◌∙◌, length, map, take, replicate, ap, sym, subst}
+use Rattle.std.proofs.Common.{◌≡◌, ◌/◌, ◌∙◌, length, map, take, replicate, ap, sym}
 use Rattle.std.specs.Simd.Lanes.{zip2}
 use Rattle.mlu_ring.specs.Lanes.{logical}
 use Rattle.mlu_ring.proofs.Logical.{logical-replicate}
 use Rattle.mlu_ring.proofs.Rings.{map-one}
 use Rattle.mlu_kernel.specs.Kernels.{plus_rows}
 use Rattle.mlu_eq.specs.Split.{contents}
-use Rattle.mlu_eq.proofs.Places.{zero_places, length-places}
+use Rattle.mlu_eq.proofs.Places.{zero_places}
 use Rattle.mlu_eq.proofs.Runs.{plus_rows-from_zeros}
 use Rattle.mlu_eq.proofs.split.prefix.compress_prefix_in_packings.Goals as goal
-
-pub compress_prefix_to_packed_into-requires : goal.compress_prefix_to_packed_into-requires
-compress_prefix_to_packed_into-requires g c =
-    let width = g.F.Packing.PackedValue.WIDTH in
-    let m = length c.args.out.now in
-    let few = subst (λ k. m / k ≤ g.row.N) (sym c.WIDTH.ensures) c.requires.few in
-    let long = length-places g.row.N (m / c.WIDTH.result) c.ZERO-places.result few in
-    let whole = c.requires.whole ∙ ap (λ k. m / k * width) (sym c.WIDTH.ensures) in
-    c.requires.size ∙ ap (λ k. length c.args.eq0.now * (length c.args.eq1.now.weights * k)) (whole ∙ ap (λ k. k * width) (sym long))
 
 pub returns : goal.returns
 returns g c =

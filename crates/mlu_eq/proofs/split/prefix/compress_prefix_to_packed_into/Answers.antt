@@ -17,12 +17,6 @@ loop-j-init g c =
     let old = logical g.EF.ExtensionPacking.PackedFieldExtension.ext_lanes c.args.out.now in
     sym (plus_rows-none ring g.met.EF.Additive.laws old (contents ring [] w) (map g.EF.Algebra.embed c.args.entries.now) (ap (λ k. k * length old) (length-contents ring [] w) ∙ omega arith))
 
-pub add_rows_to_packed-requires : goal.add_rows_to_packed-requires
-add_rows_to_packed-requires g c =
-    let w = c.args.eq1.now.weights in
-    let n = g.F.Packing.PackedValue.WIDTH in
-    c.row_of.ensures.size (length w * (length c.args.out.now * n)) c.requires ∙ ap (λ k. length w * (k * n)) (sym c.loop-j.auto.out)
-
 pub loop-j-preserved : goal.loop-j-preserved
 loop-j-preserved g c =
     let w = c.args.eq1.now.weights in

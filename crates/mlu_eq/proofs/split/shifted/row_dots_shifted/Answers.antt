@@ -1,4 +1,4 @@
-use Rattle.std.proofs.Common.{◌≡◌, ◌<◌, ◌+◌, ◌-◌, ◌*◌, ◌∙◌, length, map, get_or, ap, sym, subst, arith}
+use Rattle.std.proofs.Common.{◌≡◌, ◌<◌, ◌-◌, ◌*◌, ◌∙◌, length, map, get_or, ap, sym, subst, arith}
 use Rattle.std.proofs.lemmas.Nat.{pow_pos}
 use Rattle.std.proofs.lemmas.List.{length-map}
 use Rattle.mlu_ring.specs.Lanes.{logical}
@@ -29,14 +29,6 @@ subtract_borders-requires-clause-some g c =
     let wide : 0 < g.F.Packing.PackedValue.WIDTH = subst (λ w. 0 < w) (sym g.met.F.Packing.PackedValue.width_is) (pow_pos g.F.Packing.PackedValue.LOG_WIDTH) in
     let parts = rows_and_last (length c.args.entries.now) (length c.args.out.now) (length c.in-Some.full.now) (length c.args.weights.now) g.F.Packing.PackedValue.WIDTH c.WIDTH.result c.requires.some wide c.WIDTH.ensures c.in-Some.ensures.cases.1 c.requires.size in
     parts.0
-
-pub leading_lanes_dot-requires : goal.leading_lanes_dot-requires
-leading_lanes_dot-requires g c =
-    let wide : 0 < g.F.Packing.PackedValue.WIDTH = subst (λ w. 0 < w) (sym g.met.F.Packing.PackedValue.width_is) (pow_pos g.F.Packing.PackedValue.LOG_WIDTH) in
-    let width = length c.args.weights.now * c.WIDTH.result in
-    let parts = rows_and_last (length c.args.entries.now) (length c.args.out.now) (length c.in-Some.full.now) (length c.args.weights.now) g.F.Packing.PackedValue.WIDTH c.WIDTH.result c.requires.some wide c.WIDTH.ensures c.in-Some.ensures.cases.1 c.requires.size in
-    let left : length c.split_at.result.1.now + 1 ≡ width = omega (arith, parts.0, parts.1, c.split_at.ensures.back_len) in
-    left ∙ ap (λ k. length c.args.weights.now * k) c.WIDTH.ensures
 
 pub returns : goal.returns
 returns g c =

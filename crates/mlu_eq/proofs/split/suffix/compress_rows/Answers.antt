@@ -8,11 +8,6 @@ use Rattle.std.proofs.Math.Nat.{mul-pos}
 use Rattle.mlu_eq.proofs.RowsMapped.{row-map}
 use Rattle.mlu_eq.proofs.split.suffix.compress_rows.Goals as goal
 
-pub row_dot-requires : goal.row_dot-requires
-row_dot-requires g c =
-    let n = length c.args.eq0.now * length c.args.eq1.now.weights in
-    c.row_of.ensures.size n (c.requires.size ∙ ap (λ k. k * n) (sym c.loop-y.invariant.size))
-
 pub loop-y-preserved : goal.loop-y-preserved
 loop-y-preserved g c =
     let w = c.args.eq1.now.weights in

@@ -1,15 +1,10 @@
 use Rattle.std.proofs.Common.{◌*◌, length}
 use Rattle.mlu_ring.specs.Lanes.{logical}
-use Rattle.mlu_eq.proofs.Appended.{no_rows_appended, row_appended, room_for_row}
+use Rattle.mlu_eq.proofs.Appended.{no_rows_appended, row_appended}
 use Rattle.mlu_eq.proofs.split.whole.push_rows_of_lanes.Goals as goal
 
 pub loop-factor-init : goal.loop-factor-init
 loop-factor-init g c = no_rows_appended g.EF.Additive.ring c.args.table.now c.args.table.now c.args.eq0.now (logical g.EF.ExtensionPacking.PackedFieldExtension.ext_lanes c.args.weights.now) (length c.args.weights.now * g.F.Packing.PackedValue.WIDTH)
-
-pub push_row_of_lanes-requires : goal.push_row_of_lanes-requires
-push_row_of_lanes-requires g c =
-    room_for_row c.args.table.now c.loop-factor.table _ (length c.args.eq0.now) c.loop-factor.factor-index (length c.args.weights.now * g.F.Packing.PackedValue.WIDTH)
-    c.loop-factor-test.true c.requires c.loop-factor.invariant
 
 pub loop-factor-preserved : goal.loop-factor-preserved
 loop-factor-preserved g c =
