@@ -90,6 +90,14 @@ impl Words<'_> {
         Ok((table, element))
     }
 
+    /// Three elements.
+    pub fn three_elements<T: Element>(&mut self) -> Result<(T, T, T), Fault> {
+        let first = self.element()?;
+        let second = self.element()?;
+        let third = self.element()?;
+        Ok((first, second, third))
+    }
+
     /// A point.
     pub fn point<T: Element>(&mut self) -> Result<Point<T>, Fault>
         ensures { IfOk result (λ point. IsTaken (words_left self.old) (words_left self.new) (λ word. IsListWord T.stands word point)) }

@@ -1,13 +1,18 @@
 //! Calls on operands in an extension, over the packed form that its base field gives.
+ghost use Rattle.std.specs.Prelude.{◌≡◌, ◌<◌, ◌^◌, length};
+ghost use Rattle.multilinear_util.specs.Split.{split_entries};
 
 use crate::element::Element;
 use crate::lines::{list_word, packed_word, table_word, value_word, word};
 use crate::ops::{batches, one_ring};
 use crate::sizes::pack;
 use crate::words::Words;
+use mlu_eq::EqMaybePacked;
 use mlu_replay_lines::fault::{Fault, Reason};
 use mlu_ring::{ExtensionField, Field, MapFrom, PackedValue};
 use multilinear_util::poly::{Poly, PolyMaybePacked};
+use multilinear_util::split_eq::SplitEq;
+use std::alloc::Global;
 
 /// The calls on polynomials; the others are handed on.
 pub fn answer<
@@ -46,26 +51,13 @@ fn of_split<F: Field, EF: ExtensionField<F> + Element>(
 ) -> Result<String, Fault> {
     let alloc = words.alloc();
     match op {
-        "split.eval_ext" => {
+        "split.eval_ext" | "split.eval_packed" => {
             let (table, split) = words.table_and_split::<EF, F, EF>()?;
-            word(alloc, split.eval_ext(table.as_view()))
+            by_split(alloc, op, &table, &split)
         }
-        "split.eval_packed" => {
-            let (table, split) = words.table_and_split::<EF, F, EF>()?;
-            let packed = pack::<F, EF>(alloc, &table)?;
-            value_word(alloc, split.eval_packed(alloc, packed.as_view()))
-        }
-        "split.materialize" => {
+        "split.materialize" | "split.eq0" | "split.last_scalar" => {
             let split = words.stored_split::<F, EF>()?;
-            table_word(alloc, split.materialize(alloc))
-        }
-        "split.eq0" => {
-            let split = words.stored_split::<F, EF>()?;
-            list_word(alloc, split.eq0().as_slice())
-        }
-        "split.last_scalar" => {
-            let split = words.stored_split::<F, EF>()?;
-            word(alloc, split.last_scalar())
+            entries_of(alloc, op, &split)
         }
         "split.eq1_last_scalar" => {
             let is_packed = words.is_packed()?;
@@ -73,6 +65,37 @@ fn of_split<F: Field, EF: ExtensionField<F> + Element>(
             word(alloc, split.eq1().last_scalar())
         }
         _ => accumulated::<F, EF>(op, words),
+    }
+}
+
+/// The value by the split table, of scalars or of lanes.
+fn by_split<F: Field, EF: ExtensionField<F> + Element>(
+    alloc: Global,
+    op: &str,
+    table: &Poly<EF>,
+    split: &SplitEq<F, EF>,
+) -> Result<String, Fault>
+    requires { length table.now ≡ length (split_entries EF.ring split.now) }
+{
+    if op == "split.eval_ext" {
+        return word(alloc, split.eval_ext(table.as_view()));
+    }
+    let packed = pack::<F, EF>(alloc, table)?;
+    value_word(alloc, split.eval_packed(alloc, packed.as_view()))
+}
+
+/// All entries of the split table, those of its first half, or the last one.
+fn entries_of<F: Field, EF: ExtensionField<F> + Element>(
+    alloc: Global,
+    op: &str,
+    split: &SplitEq<F, EF>,
+) -> Result<String, Fault>
+    requires { length (split_entries EF.ring split.now) < 2 ^ 64 }
+{
+    match op {
+        "split.materialize" => table_word(alloc, split.materialize(alloc)),
+        "split.eq0" => list_word(alloc, split.eq0().as_slice()),
+        _ => word(alloc, split.last_scalar()),
     }
 }
 
@@ -88,16 +111,33 @@ fn accumulated<F: Field, EF: ExtensionField<F> + Element>(
             split.accumulate_into(out.as_mut_slice(), scale);
             list_word(words.alloc(), out.as_slice())
         }
-        "split.accumulate_into_packed" => {
-            let (out, split) = words.table_and_split::<EF, F, EF>()?;
-            let scale = words.scale::<EF>()?;
-            let mut packed = pack::<F, EF>(words.alloc(), &out)?;
-            split.accumulate_into_packed(words.alloc(), packed.as_mut_slice(), scale)?;
-            table_word(words.alloc(), packed.unpack::<F, EF>(words.alloc()))
-        }
+        "split.accumulate_into_packed" => accumulate_into_packed::<F, EF>(words),
         "split.accumulate_next_chunk_into" => accumulate_next_chunk_into::<F, EF>(words),
         _ => Err(Fault::Unknown(Reason::Op)),
     }
+}
+
+/// `split.accumulate_into_packed`: the storage, a table, a point, a scale and what all is multiplied by.
+fn accumulate_into_packed<F: Field, EF: ExtensionField<F> + Element>(
+    words: &mut Words<'_>,
+) -> Result<String, Fault> {
+    let (out, split) = words.table_and_split::<EF, F, EF>()?;
+    let scale = words.scale::<EF>()?;
+    packed_sums(words.alloc(), &out, &split, scale)
+}
+
+/// The packed table with the split table added.
+fn packed_sums<F: Field, EF: ExtensionField<F> + Element>(
+    alloc: Global,
+    table: &Poly<EF>,
+    split: &SplitEq<F, EF>,
+    scale: Option<EF>,
+) -> Result<String, Fault>
+    requires { length table.now ≡ length (split_entries EF.ring split.now) }
+{
+    let mut packed = pack::<F, EF>(alloc, table)?;
+    split.accumulate_into_packed(alloc, packed.as_mut_slice(), scale)?;
+    table_word(alloc, packed.unpack::<F, EF>(alloc))
 }
 
 /// `maybe_packed.eval`: the storage, a table and a point.
@@ -144,13 +184,20 @@ fn accumulate_next_chunk_into<F: Field, EF: ExtensionField<F> + Element>(
     let is_packed = words.is_packed()?;
     let mut out = words.table::<EF>()?;
     let split = words.unscaled_split::<F, EF>(is_packed)?;
-    let eq_weight = words.element::<EF>()?;
-    let shifted_weight = words.element::<EF>()?;
-    let boundary = words.element::<EF>()?;
-    let eq1 = split.eq1();
+    let factors = words.three_elements()?;
+    add_next_chunk(&mut out, split.eq1(), factors)?;
+    list_word(words.alloc(), out.as_slice())
+}
+
+/// Adds the step to the next row, by the two weights and the boundary, to as many places as the half has weights.
+fn add_next_chunk<F: Field, EF: ExtensionField<F>>(
+    out: &mut Poly<EF>,
+    eq1: &EqMaybePacked<F, EF>,
+    (eq_weight, shifted_weight, boundary): (EF, EF, EF),
+) -> Result<(), Fault> {
     if out.num_variables() != eq1.num_variables() {
         return Err(Fault::Unknown(Reason::Size));
     }
     eq1.accumulate_next_chunk_into(out.as_mut_slice(), eq_weight, shifted_weight, boundary);
-    list_word(words.alloc(), out.as_slice())
+    Ok(())
 }

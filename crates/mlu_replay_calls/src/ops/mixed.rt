@@ -1,4 +1,6 @@
 //! Calls on tables in a base field, with points and scales in its extension.
+ghost use Rattle.std.specs.Prelude.{◌≡◌, ◌≤◌, ◌^◌, length};
+ghost use Rattle.multilinear_util.specs.Split.{split_entries};
 
 use crate::element::Element;
 use crate::lines::{list_word, packed_word, table_word, value_word, word};
@@ -7,7 +9,11 @@ use crate::sizes::{test_lanes, test_parts};
 use crate::words::Words;
 use mlu_replay_lines::fault::{Fault, Reason};
 use mlu_ring::{ExtensionField, Field, PackedValue, SelfAlgebra};
+use multilinear_util::point::Point;
 use multilinear_util::point::Successor::Wrap;
+use multilinear_util::poly::Poly;
+use multilinear_util::split_eq::SplitEq;
+use std::alloc::{AllocError, Global};
 
 /// The calls on polynomials; the others are handed on.
 pub fn answer<F: Field + Element, EF: ExtensionField<F> + SelfAlgebra + Element>(
@@ -16,30 +22,50 @@ pub fn answer<F: Field + Element, EF: ExtensionField<F> + SelfAlgebra + Element>
 ) -> Result<String, Fault> {
     let alloc = words.alloc();
     match op {
-        "eval_base" => {
+        "eval_base" | "eval_next_base" | "eval_next_base.wrap" => {
             let (table, point) = words.table_and_point::<F, EF>()?;
-            value_word(alloc, table.eval_base(alloc, &point))
+            value_word(alloc, value(alloc, op, &table, &point))
         }
-        "eval_next_base" => {
-            let (table, point) = words.table_and_point::<F, EF>()?;
-            value_word(alloc, table.eval_next_base(alloc, &point))
-        }
-        "eval_next_base.wrap" => {
-            let (table, point) = words.table_and_point::<F, EF>()?;
-            value_word(alloc, table.eval_next_base_by(alloc, Wrap, &point))
-        }
-        "compress_prefix" => {
+        "compress_prefix" | "compress_suffix" => {
             let (table, point, scale) = words.table_part_and_scale::<F, EF>()?;
-            table_word(alloc, table.compress_prefix(alloc, &point, scale))
-        }
-        "compress_suffix" => {
-            let (table, point, scale) = words.table_part_and_scale::<F, EF>()?;
-            table_word(alloc, table.compress_suffix(alloc, &point, scale))
+            table_word(alloc, compressed(alloc, op, &table, &point, scale))
         }
         "compress_prefix_to_packed" => compress_prefix_to_packed::<F, EF>(words),
         "fix_prefix_var_to_packed" => fix_prefix_var_to_packed::<F, EF>(words),
         "eq_base_batch" => batches::eq_base_batch::<F, EF>(words),
         _ => of_split::<F, EF>(op, words),
+    }
+}
+
+/// The value at the point, or that of the next rows.
+fn value<F: Field, EF: ExtensionField<F>>(
+    alloc: Global,
+    op: &str,
+    table: &Poly<F>,
+    point: &Point<EF>,
+) -> Result<EF, AllocError>
+    requires { length table.now ≡ 2 ^ length point.now }
+{
+    match op {
+        "eval_base" => table.eval_base(alloc, point),
+        "eval_next_base" => table.eval_next_base(alloc, point),
+        _ => table.eval_next_base_by(alloc, Wrap, point),
+    }
+}
+
+/// The table with its first or its last variables at the point, times the scale.
+fn compressed<F: Field, EF: ExtensionField<F>>(
+    alloc: Global,
+    op: &str,
+    table: &Poly<F>,
+    point: &Point<EF>,
+    scale: EF,
+) -> Result<Poly<EF>, AllocError>
+    requires { 2 ^ length point.now ≤ length table.now }
+{
+    match op {
+        "compress_prefix" => table.compress_prefix(alloc, point, scale),
+        _ => table.compress_suffix(alloc, point, scale),
     }
 }
 
@@ -50,37 +76,54 @@ fn of_split<F: Field + Element, EF: ExtensionField<F> + SelfAlgebra + Element>(
 ) -> Result<String, Fault> {
     let alloc = words.alloc();
     match op {
-        "split.eval_base" => {
+        "split.eval_base" | "split.eval_next_base" | "split.eval_next_base.wrap" => {
             let (table, split) = words.table_and_split::<F, F, EF>()?;
-            word(alloc, split.eval_base(table.as_view()))
+            word(alloc, value_by_split(op, &table, &split))
         }
-        "split.eval_next_base" => {
-            let (table, split) = words.table_and_split::<F, F, EF>()?;
-            word(alloc, split.eval_next_base(table.as_view()))
-        }
-        "split.eval_next_base.wrap" => {
-            let (table, split) = words.table_and_split::<F, F, EF>()?;
-            word(alloc, split.eval_next_base_by(Wrap, table.as_view()))
-        }
-        "split.compress_prefix" => {
+        "split.compress_prefix"
+        | "split.compress_suffix"
+        | "split.compress_prefix_shifted"
+        | "split.compress_suffix_shifted" => {
             let (table, split) = words.table_and_smaller_split::<F, EF>()?;
-            table_word(alloc, split.compress_prefix(alloc, table.as_view()))
-        }
-        "split.compress_suffix" => {
-            let (table, split) = words.table_and_smaller_split::<F, EF>()?;
-            table_word(alloc, split.compress_suffix(alloc, table.as_view()))
-        }
-        "split.compress_prefix_shifted" => {
-            let (table, split) = words.table_and_smaller_split::<F, EF>()?;
-            table_word(alloc, split.compress_prefix_shifted(alloc, table.as_view()))
-        }
-        "split.compress_suffix_shifted" => {
-            let (table, split) = words.table_and_smaller_split::<F, EF>()?;
-            table_word(alloc, split.compress_suffix_shifted(alloc, table.as_view()))
+            table_word(alloc, compressed_by_split(alloc, op, &table, &split))
         }
         "split.compress_prefix_to_packed" => split_compress_prefix_to_packed::<F, EF>(words),
         "split.compress_suffix_into" => split_compress_suffix_into::<F, EF>(words),
         _ => either::answer::<F, EF>(op, words),
+    }
+}
+
+/// The value by the split table, or that of the next rows.
+fn value_by_split<F: Field, EF: ExtensionField<F>>(
+    op: &str,
+    table: &Poly<F>,
+    split: &SplitEq<F, EF>,
+) -> EF
+    requires { length table.now ≡ length (split_entries EF.ring split.now) }
+{
+    let view = table.as_view();
+    match op {
+        "split.eval_base" => split.eval_base(view),
+        "split.eval_next_base" => split.eval_next_base(view),
+        _ => split.eval_next_base_by(Wrap, view),
+    }
+}
+
+/// The table compressed by the split table, or by the split table moved by one place.
+fn compressed_by_split<F: Field, EF: ExtensionField<F>>(
+    alloc: Global,
+    op: &str,
+    table: &Poly<F>,
+    split: &SplitEq<F, EF>,
+) -> Result<Poly<EF>, AllocError>
+    requires { length (split_entries EF.ring split.now) ≤ length table.now }
+{
+    let view = table.as_view();
+    match op {
+        "split.compress_prefix" => split.compress_prefix(alloc, view),
+        "split.compress_suffix" => split.compress_suffix(alloc, view),
+        "split.compress_prefix_shifted" => split.compress_prefix_shifted(alloc, view),
+        _ => split.compress_suffix_shifted(alloc, view),
     }
 }
 
