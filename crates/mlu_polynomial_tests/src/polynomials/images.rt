@@ -18,23 +18,34 @@ pub fn are<R: ExtensionField<R>, S: ExtensionField<S> + MapFrom<R>>(
     requires { length coordinates.now < 64 }
 {
     let point = point::<R>(alloc, coordinates)?;
-    let unpacked = SplitEq::<R, R>::new_unpacked(alloc, &point, element(5))?;
-    let packed = SplitEq::<R, R>::new_packed(alloc, &point, element(5))?;
-    Ok(has_images::<R, S>(alloc, &unpacked, images)? && has_images::<R, S>(alloc, &packed, images)?)
-}
-
-/// Whether the table has these images, as scalars.
-fn has_images<R: ExtensionField<R>, S: ExtensionField<S> + MapFrom<R>>(
-    alloc: Global,
-    split: &SplitEq<R, R>,
-    images: &[S],
-) -> Result<bool, AllocError> {
-    let mapped = split.to_field::<S>(alloc)?;
-    let variables = mapped.num_variables();
-    if variables >= 32 || 1 << variables != images.len() || mapped.eq1().is_packed() {
+    let unpacked = SplitEq::<R, R>::new_unpacked(alloc, &point, element(5));
+    if !has_images::<R, S>(alloc, unpacked, images)? {
         return Ok(false);
     }
-    Ok(mapped.materialize(alloc)?.as_slice() == images)
+    let packed = SplitEq::<R, R>::new_packed(alloc, &point, element(5));
+    has_images::<R, S>(alloc, packed, images)
+}
+
+/// Whether the table that a call makes has these images, as scalars.
+fn has_images<R: ExtensionField<R>, S: ExtensionField<S> + MapFrom<R>>(
+    alloc: Global,
+    split: Result<SplitEq<R, R>, AllocError>,
+    images: &[S],
+) -> Result<bool, AllocError> {
+    is_table(alloc, &split?.to_field::<S>(alloc)?, images)
+}
+
+/// Whether the table has these entries, as scalars.
+fn is_table<S: ExtensionField<S>>(
+    alloc: Global,
+    split: &SplitEq<S, S>,
+    entries: &[S],
+) -> Result<bool, AllocError> {
+    let variables = split.num_variables();
+    if variables >= 32 || 1 << variables != entries.len() || split.eq1().is_packed() {
+        return Ok(false);
+    }
+    Ok(split.materialize(alloc)?.as_slice() == entries)
 }
 
 #[test]

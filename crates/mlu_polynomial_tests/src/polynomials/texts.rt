@@ -41,22 +41,34 @@ where
     is_printed(alloc, &packed, lanes)
 }
 
+/// Whether the split table that a call makes prints as it must.
+fn prints_split<R: ExtensionField<R> + Debug>(
+    alloc: Global,
+    split: Result<SplitEq<R, R>, AllocError>,
+    text: (&str, &str, &str),
+) -> Result<bool, AllocError>
+where
+    R::ExtensionPacking: Debug,
+{
+    is_printed(alloc, &split?, text)
+}
+
 /// Whether both split tables of the point (0, 1, 1), times 3, print as they must.
 fn prints_halves<R: ExtensionField<R> + Debug>(alloc: Global) -> Result<bool, AllocError>
 where
     R::ExtensionPacking: Debug,
 {
     let point = point::<R>(alloc, &[0, 1, 1])?;
-    let unpacked = SplitEq::<R, R>::new_unpacked(alloc, &point, element(3))?;
-    let packed = SplitEq::<R, R>::new_packed(alloc, &point, element(3))?;
     let scalars = "SplitEq { eq0: Poly { evals: [BabyBear { value: 3 }, BabyBear { value: 0 }] }, \
         eq1: EqMaybePacked { weights: Scalar(Table { values: ";
     let lanes = "SplitEq { eq0: Poly { evals: [BabyBear { value: 3 }, BabyBear { value: 0 }] }, \
         eq1: EqMaybePacked { weights: Packed(Table { values: [Lanes { values: ";
-    Ok(
-        is_printed(alloc, &unpacked, (scalars, WEIGHTS, " }) } }"))?
-            && is_printed(alloc, &packed, (lanes, WEIGHTS, " }] }) } }"))?,
-    )
+    let unpacked = SplitEq::<R, R>::new_unpacked(alloc, &point, element(3));
+    if !prints_split(alloc, unpacked, (scalars, WEIGHTS, " }) } }"))? {
+        return Ok(false);
+    }
+    let packed = SplitEq::<R, R>::new_packed(alloc, &point, element(3));
+    prints_split(alloc, packed, (lanes, WEIGHTS, " }] }) } }"))
 }
 
 /// Whether 3, 4, 5, 6 in both storages, and split tables, print as they must.
