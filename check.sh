@@ -106,7 +106,9 @@ faulty 2 'mlu: usage' -- sumcheck 3,4 2 5 6
 faulty 3 'mlu: memory' --fail-alloc 1 -- eval 1,2,3,4 2,3
 status=0
 RT_JOBS=$proofs rt ci | tee "$room/said" || status=$?
-echo "all of it took $((SECONDS / 60)) minutes on $places processors"
+times >"$room/times"
+spent=$(awk -F'[ms ]+' 'END { print int($1 + $3 + ($2 + $4) / 60) }' "$room/times")
+echo "all of it took $((SECONDS / 60)) minutes on $places processors, $spent of a processor"
 
 if [ ! -e crates/mlu_c/out/libmlu_c.a ] || ! command -v cargo >/dev/null; then
   echo "there is no cargo, or rt lib has not built crates/mlu_c: the tests of bindings/rust were not run"
