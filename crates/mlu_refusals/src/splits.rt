@@ -57,9 +57,8 @@ pub fn made<R: ExtensionField<R> + MapFrom<R>>(
     requires { R.Packing.WIDTH ≡ 4 }
 {
     let point = point::<R>(alloc, &[2, 3, 5])?;
-    let table = split::<R>(alloc, half, &point)?;
-    let (poly, packed) = (counted::<R>(alloc, 8)?, packed::<R>(alloc)?);
     let mut zeros = R::zero_vec(alloc, 8)?;
+    let table = split::<R>(alloc, half, &point)?;
     let answered = match call {
         Call::New => gives_table(split(alloc, half, &point)),
         Call::TryClone => gives_table(table.try_clone(alloc)),
@@ -67,12 +66,32 @@ pub fn made<R: ExtensionField<R> + MapFrom<R>>(
         Call::ToField => gives_table(table.to_field::<R>(alloc)),
         Call::Materialize => gives_poly(table.materialize(alloc), &WEIGHTS),
         Call::AccumulateIntoPacked => return accumulate_into_packed(alloc, &table),
-        Call::EvalPacked => gives(table.eval_packed(alloc, packed.as_view()), 20),
+        _ => return on_values(alloc, &table, zeros.as_mut_slice(), call),
+    };
+    Ok(judge(answered, has_weights(&table, zeros.as_mut_slice())))
+}
+
+/// What becomes of a call on the table and the values 1, 2, .., 8, after which both are as before.
+fn on_values<R: ExtensionField<R>>(
+    alloc: Global,
+    table: &SplitEq<R, R>,
+    zeros: &mut [R],
+    call: Call,
+) -> Result<Outcome, AllocError>
+    requires lanes { R.Packing.WIDTH ≡ 4 }
+    requires table { length (split_entries R.ring table.now) ≡ 8 }
+    requires zeros { length zeros.old ≡ 8 }
+{
+    let poly = counted::<R>(alloc, 8)?;
+    let answered = match call {
         Call::CompressPrefix => gives_poly(table.compress_prefix(alloc, poly.as_view()), &[20]),
         Call::CompressSuffix => gives_poly(table.compress_suffix(alloc, poly.as_view()), &[20]),
+        _ => {
+            let packed = packed::<R>(alloc)?;
+            gives(table.eval_packed(alloc, packed.as_view()), 20)
+        }
     };
-    let kept = has_weights(&table, zeros.as_mut_slice()) && is_counted(&poly, 8);
-    Ok(judge(answered, kept))
+    Ok(judge(answered, has_weights(table, zeros) && is_counted(&poly, 8)))
 }
 
 /// Whether the call gives a table of three variables that ends with the weight 30.
