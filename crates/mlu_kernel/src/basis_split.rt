@@ -67,8 +67,8 @@ fn coefficient_column<F: Field, EF: ExtensionField<F>>(
 }
 
 /// [`row_dot_in_lanes`](crate::one_row::row_dot_in_lanes) of row `j` of so many rows, from the
-/// columns of the weights. The row goes by way of `blocks`, a place for each weight; what these
-/// then hold is not promised.
+/// columns of the weights; `weights` is named by the clauses alone. The row goes by way of `blocks`, a
+/// place for each weight; what these then hold is not promised.
 #[inline]
 pub(crate) fn row_dot_by_columns<F: Field, EF: ExtensionField<F>, const D: usize>(
     weights: &[EF::ExtensionPacking],
@@ -115,6 +115,7 @@ fn column_dots<F: Field, const D: usize>(
     ensures { result ≡ map (λ c. pair F.Packing.ring c row.now) (map (take (length row.now)) split.now) }
 {
     let n = row.len();
+    // The check does not cover an array of slices that is first filled with some other slice.
     let mut columns = [&split[0][..n]; MOST_COEFFICIENTS];
     for k in 0..D {
         columns[k] = &split[k][..n];

@@ -84,8 +84,8 @@ fn rows_by_columns<F: Field, EF: ExtensionField<F>, const D: usize>(
     sum
 }
 
-/// [`compress_hi_dot_packed`] with one packed dot a row, whose lanes are added up before the weight
-/// of the row multiplies one element in place of all lanes.
+/// [`compress_hi_dot_packed`] with each product reduced at once. The lanes of a row's dot are added up
+/// before the weight of the row multiplies them.
 pub fn compress_hi_dot_packed_eager<F: Field, EF: ExtensionField<F>>(
     eq1: &[EF::ExtensionPacking],
     chunk: &[F],

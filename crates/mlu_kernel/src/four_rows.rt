@@ -1,8 +1,8 @@
 //! Packed weights of rows, taken four lanes at a time.
 //!
-//! Each coefficient of an output grows by the weighted coefficients of four rows at once, which
-//! [`Field::mixed_dot4`] sums before it reduces. Rows are read from front to back, and the sums
-//! stand in the output, so no memory is taken.
+//! Each coefficient of an output grows by the packed values of four rows at once, each times that
+//! coefficient of its row's weight, which [`Field::mixed_dot4`] sums before it reduces. Rows are read
+//! from front to back, and the sums stand in the output, so no memory is taken.
 ghost use Rattle.std.specs.Prelude.{◌≡◌, ◌↔◌, ◌+◌, ◌*◌, ◌%◌, ◌≤◌, ◌<◌, IsTrue, length};
 ghost use Rattle.std.specs.Mem.{type_size};
 ghost use Rattle.mlu_ring.specs.Columns.{column_of};

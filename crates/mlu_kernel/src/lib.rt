@@ -4,6 +4,7 @@
 //! its column; [`rows::row_dots`] gives the dot of each row; [`compress_prefix_to_packed_packed`]
 //! adds the rows, each times its weight, to a packed output. Packed weights stand for their lanes,
 //! joined in order. [`packed_basis_dot`] gives dots of packed values, whose products a meter makes.
+//! [`rows`], [`one_row`] and [`small`] are for the split tables of `mlu_eq`.
 //!
 //! Each of the first three has an eager form, which reduces each product at once and serves every
 //! width and dimension. The fast forms reduce once for four products: dots go by columns of

@@ -9,8 +9,9 @@ use mlu_ring::{
     row_of_width, scale_by_packing, scale_packing,
 };
 
-/// The packed weights times a row: a value whose lanes add up to the dot. Asks for as many entries
-/// as the weights have lanes.
+/// A packed value whose lanes add up to the dot of the weights' lanes, joined in order, with the row;
+/// how the dot is spread over the lanes is not promised. Asks for as many entries as the weights have
+/// lanes.
 #[inline]
 pub fn row_dot_in_lanes<F: Field, EF: ExtensionField<F>>(
     weights: &[EF::ExtensionPacking],

@@ -121,6 +121,7 @@ fn write_table<S: PrimeCharacteristicRing>(out: &mut [S], point: &[S], scalars: 
 }
 
 /// The batch, with all working space taken before the first write.
+#[tactic(auto, using(std::proofs::lemmas::Grind::common_steps))]
 fn evaluate<
     F: Field,
     EF: ExtensionField<F>,
@@ -196,6 +197,7 @@ fn lane_places<F: Field>(variables: usize) -> Result<usize, AllocError>
 }
 
 /// Zeros for the shares of so many points, and for those of each variable that these do not stand for.
+#[tactic(auto, using(std::proofs::lemmas::Grind::common_steps))]
 fn packed_space<F: Field, EF: ExtensionField<F>>(
     alloc: Global,
     points: usize,
@@ -235,6 +237,7 @@ fn working_space<S: PrimeCharacteristicRing>(
 
 /// The recursion on the first variable, which writes two disjoint halves of the output, down to the
 /// variables of a chunk. It uses up the scalars and the working space.
+#[tactic(auto, using(std::proofs::lemmas::Grind::common_steps))]
 fn add_tables<
     F: Field,
     EF: ExtensionField<F>,
