@@ -5,7 +5,7 @@ use Rattle.std.proofs.lemmas.Bool.{cases_Bool, false≢true}
 use Rattle.mlu_ring.specs.Ring.{Ring, RingLaws}
 use Rattle.mlu_ring.specs.Tables.{pair, front, line, univariate, value}
 use Rattle.mlu_ring.proofs.Univariate.{length-front}
-use Rattle.mlu_sumcheck.specs.Rounds.{round, BeginWithSum, EndWithProduct, Fit, IsCaughtAt}
+use Rattle.mlu_sumcheck.specs.Rounds.{round, AddsUpTo, BeginWithSum, EndWithProduct, Fit, IsCaughtAt}
 use Rattle.mlu_sumcheck.proofs.Rounds.{round-adds_up, univariate-round}
 use Rattle.mlu_sumcheck.proofs.Folded.{doubled, power_halved, value-front, pair-folded}
 use Rattle.mlu_sumcheck.proofs.Chains.{fit-rest}
@@ -27,7 +27,7 @@ module _ {R : Type 0} (ring : Ring R) (laws : RingLaws ring) (decide : (a b : R)
   TrueOrCaught claims w e rounds challenges = BeginWithSum ring claims w e ⊎ ((i : ℕ) × IsCaughtAt ring w e rounds challenges i)
 
   later : (r : R) (rs : List R) (g : List R) (gs : List (List R)) (w e : List R) (i : ℕ) → IsCaughtAt ring (front ring (line ring r) w) (front ring (line ring r) e) gs rs i → IsCaughtAt ring w e (g ∷ gs) (r ∷ rs) (suc i)
-  later r rs g gs w e i caught = let below = caught.within in record { within = omega (arith, below); other = caught.other; same = caught.same }
+  later r rs g gs w e i caught = let below = caught.within in record { within = omega (arith, below); wrong = caught.wrong; other = caught.other; same = caught.same }
 
   pub true_or_caught : (challenges : List R) (rounds : List (List R)) (claims w e : List R) → length w ≡ 2 ^ length challenges → length e ≡ 2 ^ length challenges → length rounds ≡ length challenges → Fit ring claims rounds challenges
       → EndWithProduct ring claims w e challenges → TrueOrCaught claims w e rounds challenges
@@ -54,6 +54,7 @@ module _ {R : Type 0} (ring : Ring R) (laws : RingLaws ring) (decide : (a b : R)
         0,
         record {
           within = omega arith;
+          wrong = λ (sums : AddsUpTo ring (pair ring w e) g). not (sym (fit.adds_up 0 (omega arith)) ∙ sums);
           other = λ (is : g ≡ round ring w e). not (sym (fit.adds_up 0 (omega arith)) ∙ ap (λ t. ring.sum (univariate ring t 𝟘) (univariate ring t ring.one)) is ∙ round-adds_up ring laws w e half halves_w halves_e);
           same = sym (fit.next 0 (omega arith)) ∙ true_next ∙ sym (univariate-round ring laws w e half r halves_w halves_e);
         },

@@ -66,8 +66,9 @@ BeginWithSum ring claims w e = slice_index_or claims 0 ring.zero ≡ pair ring w
 abbrev pub EndWithProduct : {R : Type 0} → Ring R → List R → List R → List R → List R → Type 0
 EndWithProduct ring claims w e challenges = slice_index_or claims (length challenges) ring.zero ≡ product_of_values ring w e challenges
 
--- round i is not that of the tables folded at the challenges before it, and yet has its value at challenge i
+-- round i does not add up to the sum of the tables folded at the challenges before it, so it is not their round, and yet has its value at challenge i
 pub record IsCaughtAt {R : Type 0} (ring : Ring R) (w e : List R) (rounds : List (List R)) (challenges : List R) (i : ℕ) : Type 0 where
   pub within : i < length challenges
+  pub wrong : AddsUpTo ring (pair ring (folded ring (take i challenges) w) (folded ring (take i challenges) e)) (slice_index_or rounds i []) → ⊥
   pub other : slice_index_or rounds i [] ≢ round_at ring w e challenges i
   pub same : univariate ring (slice_index_or rounds i []) (slice_index_or challenges i ring.zero) ≡ univariate ring (round_at ring w e challenges i) (slice_index_or challenges i ring.zero)

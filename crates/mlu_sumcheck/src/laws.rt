@@ -10,7 +10,8 @@ use mlu_ring::PrimeCharacteristicRing;
 
 /// Let claims from `first` to `last` fit, as [`verify`](crate::verify) says, and `last` be the product of
 /// both tables' values at the challenges. Then `first` is the sum of the products of both tables, or
-/// some round is false: it differs from the tables' own round, but has the same value at its challenge.
+/// some round is caught: it adds up to another sum than that of the tables folded at the challenges
+/// before it, and yet has the value of their round at its challenge.
 ///
 /// Asks for `2^k` entries in each table and `k` rounds, where there are `k` challenges.
 pub fn caught<EF: PrimeCharacteristicRing>(

@@ -121,6 +121,11 @@ pub fn bind<EF: SelfAlgebra>(poly: &mut Poly<EF>, weights: &mut Poly<EF>, r: EF)
 
 /// The whole proof: `k` rounds at `k` challenges, with `k + 1` claims. The first claim is the sum of the
 /// polynomial's values, each times its weight; the last is the product of both values at the challenges.
+/// Round `i` is that of both tables folded at the challenges before it, and claim `i + 1` its value at
+/// challenge `i`. Both lists have room for exactly their items.
+///
+/// All challenges are given beforehand. Where each is drawn after its round, [`prove_round_of_claim`] and
+/// [`bind`] make the proof in turn.
 ///
 /// Asks that the polynomial and the split table have as many variables as there are challenges.
 ///

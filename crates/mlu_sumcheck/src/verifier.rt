@@ -28,7 +28,8 @@ pub fn verify_round<EF: PrimeCharacteristicRing>(claim: EF, round: [EF; 3], r: E
 /// The last claim, where claims from the given one on fit the rounds and the challenges; `None` exactly
 /// where there are no such claims. Takes no memory.
 ///
-/// Asks for as many challenges as rounds.
+/// Claims fit where each round's values at 0 and 1 add up to the claim before it, and its value at its
+/// challenge is the next claim. Asks for as many challenges as rounds.
 pub fn verify<EF: PrimeCharacteristicRing>(
     mut claim: EF,
     rounds: &[[EF; 3]],

@@ -1,4 +1,4 @@
-//! Tables of scalars as tables of packed elements, and back.
+//! Slices of scalars as lists of packed elements, and back.
 ghost use Rattle.std.specs.Prelude.{◌≡◌, ◌%◌, ◌≤◌, length, IfOk};
 ghost use Rattle.mlu_ring.specs.Lanes.{logical};
 ghost use Rattle.multilinear_util.specs.Storage.{IsTable};

@@ -1,9 +1,9 @@
 //! Equality tables kept in two halves.
 //!
-//! The table of a point keeps `eq0`, the weights of the first half of the coordinates times the
-//! scale, and `eq1`, the weights of the others, as scalars or packed. With `L` weights in `eq1`,
-//! entry `x` of the whole table is `eq0[x / L] * eq1[x % L]`; it takes the memory of two tables of
-//! half as many variables. Evaluations, accumulations and compressions go over the halves.
+//! The table of a point keeps `eq0`, the weights of the first half of the coordinates, rounded down,
+//! times the scale, and `eq1`, the weights of the others, as scalars or packed. With `L` weights in
+//! `eq1`, entry `x` of the whole table is `eq0[x / L] * eq1[x % L]`; it takes the memory of two tables
+//! of half as many variables. Evaluations, accumulations and compressions go over the halves.
 ghost use Rattle.std.specs.Prelude.{◌≡◌, ◌-◌, ◌*◌, ◌/◌, ◌^◌, ◌<◌, ◌≤◌, ◌↔◌, length, map, slice_index_or, IfOk, IsTrue};
 ghost use Rattle.mlu_ring.specs.Ring.{IsRingMap};
 ghost use Rattle.mlu_ring.specs.Tables.{weights};
@@ -110,10 +110,11 @@ impl<F: Field, EF: ExtensionField<F>> SplitEq<F, EF> {
         Ok(SplitEq { eq0, eq1 })
     }
 
-    /// The number of variables.
+    /// The number of variables. It is below 192.
     #[tactic(auto, using(crate::proofs::Splits::entries_of_powers))]
     pub fn num_variables(&self) -> usize
-        ensures { length (split_entries EF.ring self.now) ≡ 2 ^ result }
+        ensures value { length (split_entries EF.ring self.now) ≡ 2 ^ result }
+        ensures small { result < 192 }
     {
         self.eq0().num_variables() + self.eq1().num_variables()
     }

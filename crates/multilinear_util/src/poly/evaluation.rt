@@ -24,7 +24,8 @@ const WORD_BYTES: usize = 4;
 const COEFFICIENTS: usize = 4;
 
 /// The most variables of a table whose second half has its weights read to the stack, where these have
-/// one coefficient: then a row is a dot of base elements.
+/// one coefficient: then a row is a dot of base elements. Twice the logarithm of the 1024 that `mlu_eq`
+/// reads at most.
 const MOST_VARIABLES: usize = 20;
 
 /// The number of variables from which a split table serves better than the recursion, which takes

@@ -59,9 +59,10 @@ impl<F: Field, EF: ExtensionField<F>> PolyMaybePacked<F, EF> {
     ghost use Rattle.multilinear_util.specs.Storage.{scalars, view_scalars, IsScalar, IsScalarView};
     ghost use Rattle.multilinear_util.specs.Thresholds.{threshold};
 
-    /// The number of variables, those of the lanes among them.
+    /// The number of variables, those of the lanes among them. It is below 128.
     pub fn num_variables(&self) -> usize
-        ensures { length (scalars EF.ExtensionPacking.ext_lanes self.now) ≡ 2 ^ result }
+        ensures value { length (scalars EF.ExtensionPacking.ext_lanes self.now) ≡ 2 ^ result }
+        ensures small { result < 128 }
     {
         self.as_view().num_variables()
     }
@@ -140,10 +141,11 @@ impl<'a, F: Field, EF: ExtensionField<F>> PolyMaybePackedView<'a, F, EF> {
     ghost use Rattle.multilinear_util.specs.Storage.{view_scalars, IsScalarView};
     ghost use Rattle.multilinear_util.specs.Thresholds.{threshold};
 
-    /// The number of variables, those of the lanes among them.
+    /// The number of variables, those of the lanes among them. It is below 128.
     #[tactic(auto, using(crate::proofs::Packed::variables_of_lanes))]
     pub fn num_variables(&self) -> usize
-        ensures { length (view_scalars EF.ExtensionPacking.ext_lanes self.now) ≡ 2 ^ result }
+        ensures value { length (view_scalars EF.ExtensionPacking.ext_lanes self.now) ≡ 2 ^ result }
+        ensures small { result < 128 }
     {
         match self {
             PolyMaybePackedView::Scalar(poly) => poly.num_variables(),

@@ -1,4 +1,4 @@
-//! Tables of scalars as tables of packed elements, and back.
+//! Polynomials of scalars as polynomials of packed elements, and back.
 ghost use Rattle.std.specs.Prelude.{◌≡◌, ◌*◌, ◌≤◌, length, IfOk};
 ghost use Rattle.mlu_ring.specs.Lanes.{logical};
 ghost use Rattle.multilinear_util.specs.Views.{entries};

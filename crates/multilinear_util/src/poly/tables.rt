@@ -30,9 +30,9 @@ impl<F: PrimeCharacteristicRing> Poly<F> {
         Ok(Poly::new(evals))
     }
 
-    /// The weights at the point, each moved to the next vertex: entry `x` is the weight of the
-    /// vertex before `x`, and the last entry has the last weight too. Asks that `2^n` fits `usize`,
-    /// where the point has `n` coordinates.
+    /// The weights at the point, each moved to the next vertex: entry 0 is zero, entry `x` the weight
+    /// of the vertex before `x`, and the last weight is added to the last entry too. Asks that `2^n`
+    /// fits `usize`, where the point has `n` coordinates.
     ///
     /// # Errors
     /// Where the memory for the table is refused.
@@ -112,7 +112,8 @@ fn packed_table<F: Field, EF: ExtensionField<F>>(
     embedded_table(alloc, rest, seed)
 }
 
-/// [`Poly::new_from_point`] at the images of the coordinates. No place is written before its weight is made.
+/// [`Poly::new_from_point`] at the images of the coordinates. The weights are appended: in tables larger
+/// than the caches, zeros written first would take a third of the time.
 #[tactic(auto, using(crate::proofs::Lengths::power_of_size, std::proofs::lemmas::Grind::common_steps))]
 fn embedded_table<B: Additive, R: Algebra<B>>(
     alloc: Global,

@@ -32,7 +32,8 @@ impl<F: Field, EF: ExtensionField<F>> SplitEq<F, EF> {
     }
 
     /// [`SplitEq::compress_prefix`] with the first half cut into `parts` runs, of which each is
-    /// added up by itself. Asks for one part or more; parts past the entries of the half are empty.
+    /// added up by itself. A run has the quotient of entries and parts, rounded up; the last ones may be
+    /// shorter or empty. Asks for one part or more.
     ///
     /// # Errors
     /// Where the memory for the values that are left, or for those of a run, is refused.
@@ -119,7 +120,7 @@ impl<F: Field, EF: ExtensionField<F>> SplitEq<F, EF> {
     }
 
     /// [`SplitEq::compress_prefix`] by the table moved up by one place: each value meets the entry
-    /// before its own, and the first one none. Asks that `n >= k`.
+    /// before its own, and the first `s` values none. Asks that `n >= k`.
     ///
     /// # Errors
     /// Where the memory for the values that are left is refused.

@@ -61,7 +61,8 @@ impl<F: Field, EF: ExtensionField<F>> SplitEq<F, EF> {
     /// as entries.
     ///
     /// # Errors
-    /// Where the memory to unpack the polynomial is refused. Never where the second half is packed.
+    /// Where the memory to unpack the polynomial is refused, or the number of its lanes does not fit
+    /// `usize`. Never where the second half is packed.
     #[tactic(auto, using(crate::proofs::Packed::size_of_unpacked))]
     pub fn eval_packed(
         &self,
