@@ -11,8 +11,11 @@
  * before. A call may be made with any sizes and any words.
  *
  * What a caller owes. A pointer is aligned and has so many words behind it, which nothing else
- * writes during the call; an output overlaps no other operand. With no words the pointer is not
- * read, and may be any. A call may be made from any thread, but from no signal handler.
+ * writes during the call, and which are initialized but where an output is only written; an output
+ * overlaps no other operand. With no words the pointer is not read, and may be any. A call may be
+ * made from any thread, but from no signal handler.
+ *
+ * Points, scales, scalars, challenges, claims, rounds and every output are of the extension.
  */
 #ifndef MLU_H
 #define MLU_H
@@ -32,7 +35,7 @@ extern "C" {
 #define MLU_DONE 0u
 /* An operand has a number of words that it cannot have. */
 #define MLU_LENGTH 1u
-/* The sizes of the operands do not fit one another. */
+/* The sizes of the operands do not fit one another, or there is no variable to fold. */
 #define MLU_ARITY 2u
 /* A word that is read is the modulus or more. */
 #define MLU_RESIDUE 3u
@@ -73,15 +76,16 @@ uint32_t mlu_equality_weights_lsb(const uint32_t *point, size_t point_len,
 /* The sum of the equality tables of points, each times its scalar, written to out, or added to it
  * where `adds`. The values stand row after row: coordinate 0 of each point, then coordinate 1 of
  * each, and so on; coordinate 0 reads the highest bit of an index, and there is a scalar for each
- * point. All are of the extension. With no points there are no values, and out may be any table. */
+ * point. out has 2^n elements, 4 * 2^n words, where the points have n coordinates. With no points
+ * there are no values, and out may be any table. */
 uint32_t mlu_eval_eq_batch(bool adds,
                            const uint32_t *values, size_t values_len,
                            const uint32_t *scalars, size_t scalars_len,
                            uint32_t *out, size_t out_len);
 
-/* A table over the extension with its first variable at r: element i is low[i] + r * (high[i] -
- * low[i]), where low and high are the halves. It stands in the first half of the words; the second
- * half is as before. The table has a variable. */
+/* A table over the extension with its first variable at r, 4 words: element i is low[i] + r *
+ * (high[i] - low[i]), where low and high are the halves. It stands in the first half of the words;
+ * the second half is as before. The table has a variable, else MLU_ARITY. */
 uint32_t mlu_fix_prefix_var_mut(uint32_t *table, size_t table_len,
                                 const uint32_t *r, size_t r_len);
 
@@ -90,7 +94,7 @@ uint32_t mlu_fix_suffix_var_mut(uint32_t *table, size_t table_len,
                                 const uint32_t *r, size_t r_len);
 
 /* A table over the base field with its first k variables at a point of k coordinates, times a
- * scale: a table over the extension with the other variables. */
+ * scale: a table over the extension with the other n - k variables, 4 * 2^(n - k) words. */
 uint32_t mlu_compress_prefix(const uint32_t *table, size_t table_len,
                              const uint32_t *point, size_t point_len,
                              const uint32_t *scale, size_t scale_len,
@@ -112,9 +116,11 @@ uint32_t mlu_sumcheck_run(const uint32_t *table, size_t table_len,
                           uint32_t *rounds, size_t rounds_len,
                           uint32_t *claims, size_t claims_len);
 
-/* The last claim, 4 words, where the rounds fit the first one at the challenges: each round adds up
- * to the claim before it, and its value at its challenge is the next. MLU_REFUSED where they do
- * not. */
+/* The last claim, 4 words, where the rounds, 12 words each, fit the first one at as many challenges:
+ * each round adds up to the claim before it, and its value at its challenge is the next. MLU_REFUSED
+ * where they do not. This alone accepts no proof: the caller tests that the last claim is the
+ * product of the values of the weights and of the table at the challenges, and draws each challenge
+ * after its round. */
 uint32_t mlu_sumcheck_verify(const uint32_t *claim, size_t claim_len,
                              const uint32_t *rounds, size_t rounds_len,
                              const uint32_t *challenges, size_t challenges_len,

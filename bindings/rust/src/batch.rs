@@ -22,8 +22,8 @@ use crate::{Ext, Table};
 ///
 /// # Errors
 /// [`Error::Arity`] where the values are no rows of as many as there are scalars, or the table has
-/// another number of variables than there are rows; [`Error::Residue`] and [`Error::Memory`]. The
-/// table is then as before.
+/// another number of variables than there are rows (with no points any table will do);
+/// [`Error::Residue`] and [`Error::Memory`]. The table is then as before.
 pub fn eval_eq_batch<const INITIALIZED: bool>(
     evals: &[Ext],
     out: &mut Table<Ext>,

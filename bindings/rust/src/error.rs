@@ -8,7 +8,7 @@ use std::fmt;
 pub enum Error {
     /// An operand has a size that it cannot have: a table's is a power of two.
     Length,
-    /// The sizes of the operands do not fit one another.
+    /// The sizes of the operands do not fit one another, or there is no variable to fold.
     Arity,
     /// A value is the modulus or more.
     Residue,

@@ -3,7 +3,7 @@
 use crate::Ext;
 use crate::error::{Error, answer};
 use crate::sys::call;
-use crate::table::{Table, zeros};
+use crate::table::{Table, filled};
 
 /// A point: a coordinate in the extension for each variable.
 #[derive(Clone, Debug, PartialEq, Eq, Hash)]
@@ -64,7 +64,7 @@ impl Point {
     /// Room for a weight of each vertex.
     fn room(&self) -> Result<Vec<Ext>, Error> {
         let variables = u32::try_from(self.coordinates.len()).map_err(|_| Error::Length)?;
-        zeros(1_usize.checked_shl(variables).ok_or(Error::Length)?)
+        filled([0; 4], 1_usize.checked_shl(variables).ok_or(Error::Length)?)
     }
 
     pub(crate) fn words(&self) -> &[u32] {

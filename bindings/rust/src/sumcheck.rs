@@ -17,7 +17,7 @@
 
 use crate::error::{Error, answer};
 use crate::sys::{self, call};
-use crate::table::zeros;
+use crate::table::filled;
 use crate::{Ext, Point, Table};
 
 /// The rounds of a proof, and the claims between them: one more than rounds.
@@ -37,8 +37,8 @@ pub struct Transcript {
 /// [`Error::Arity`] with another number of coordinates or challenges than variables,
 /// [`Error::Residue`] and [`Error::Memory`].
 pub fn run(table: &Table<Ext>, point: &Point, challenges: &[Ext]) -> Result<Transcript, Error> {
-    let mut rounds = vec![[[0; 4]; 3]; challenges.len()];
-    let mut claims = zeros(challenges.len() + 1)?;
+    let mut rounds = filled([[0; 4]; 3], challenges.len())?;
+    let mut claims = filled([0; 4], challenges.len() + 1)?;
     let round_words = rounds.as_flattened_mut().as_flattened_mut();
     let claim_words = claims.as_flattened_mut();
     answer(call!(mlu_sumcheck_run(
@@ -50,6 +50,9 @@ pub fn run(table: &Table<Ext>, point: &Point, challenges: &[Ext]) -> Result<Tran
 /// The last claim, where the rounds fit the first one at the challenges: each round's values at 0
 /// and 1 add up to the claim before it, and its value at its challenge is the next. `None` where they
 /// do not.
+///
+/// This alone accepts no proof: the caller tests that the last claim is the product of the values of
+/// the weights and of the table at the challenges, and draws each challenge after its round.
 ///
 /// # Errors
 /// [`Error::Arity`] with another number of challenges than rounds, [`Error::Residue`] and

@@ -4,14 +4,14 @@
 //! Each takes pointers and lengths in words, tests every size and value itself, and answers a status.
 //!
 //! # Safety
-//! A pointer is aligned and has as many words behind it as its length says, which nothing else
-//! writes during the call; an output overlaps no other operand. With length 0 it is not read.
+//! A pointer is aligned and has as many words behind it as its length says, initialized, which nothing
+//! else writes during the call; an output overlaps no other operand. With length 0 it is not read.
 
 /// The call was done.
 pub const DONE: u32 = 0;
 /// An operand has a number of words that it cannot have.
 pub const LENGTH: u32 = 1;
-/// The sizes of the operands do not fit one another.
+/// The sizes of the operands do not fit one another, or there is no variable to fold.
 pub const ARITY: u32 = 2;
 /// A word that is read is the modulus or more.
 pub const RESIDUE: u32 = 3;

@@ -73,12 +73,12 @@ impl<E: Element> Table<E> {
     }
 }
 
-/// Zeros, as room for an answer.
-pub(crate) fn zeros(count: usize) -> Result<Vec<Ext>, Error> {
-    let mut zeros = Vec::new();
-    zeros.try_reserve_exact(count).map_err(|_| Error::Memory)?;
-    zeros.resize(count, [0; 4]);
-    Ok(zeros)
+/// So many copies of a value, as room for an answer.
+pub(crate) fn filled<T: Copy>(value: T, count: usize) -> Result<Vec<T>, Error> {
+    let mut values = Vec::new();
+    values.try_reserve_exact(count).map_err(|_| Error::Memory)?;
+    values.resize(count, value);
+    Ok(values)
 }
 
 impl Table<Base> {
@@ -157,7 +157,7 @@ impl Table<Base> {
             .num_variables()
             .checked_sub(point.num_variables())
             .ok_or(Error::Arity)?;
-        zeros(1 << left)
+        filled([0; 4], 1 << left)
     }
 }
 

@@ -5,7 +5,7 @@
 //! of its coefficients; a table or a point is the words of its elements, one after the other. A call
 //! tests the size of each operand, then whether the sizes fit one another, then whether the words
 //! that it reads are residues, and answers with a status: 0 where it is done, 1 to 4 as
-//! [`mlu_words::Fault`] has them, and 5 where a proof is refused. It writes at the end alone, so an
+//! [`mlu_words::Fault`] has them, and 5 where rounds do not fit their claim. It writes at the end alone, so an
 //! output is as before wherever the status is not 0.
 //!
 //! Sizes and statuses of each call stand in `bindings/c/mlu.h`.
@@ -157,7 +157,8 @@ pub extern "C" fn mlu_sumcheck_run(
 }
 
 /// Whether the rounds fit a claim at the challenges: the last claim where they do, and status 5
-/// where they do not.
+/// where they do not. A proof passes where besides the last claim is the product of the values of the
+/// weights and of the table at the challenges, each drawn after its round: that is the caller's to test.
 #[unsafe(no_mangle)]
 pub extern "C" fn mlu_sumcheck_verify(
     alloc: Global,

@@ -32,7 +32,8 @@ fn lines_and_their_count(rt: HostRuntime) -> Result<(), Fail> {
         msb 4 b - = 1 \n\
         msb 3 b - = 1\n\
         \xff = 1\n\
-        transpose 4 b true 1,2;3,4 = 2/2,4,1,3"[..];
+        transpose 4 b true 1,2;3,4 = 2/2,4,1,3\n\
+        msb 4 b - = 1 = 1"[..];
     let mut output = Vec::new(rt.alloc());
     let tally = replay::<Fixed, _, _>(rt.alloc(), &mut input, &mut output)?;
     let text = "line 2: unknown: there is no `=` before an answer\n\
@@ -41,9 +42,10 @@ fn lines_and_their_count(rt: HostRuntime) -> Result<(), Fail> {
         line 5: msb differs: given 1 , answered 1\n\
         line 6: unknown: the width is none of 1, 2, 4, 8, 16\n\
         line 7: unknown: the line is no UTF-8 text\n\
-        4 compared, 2 differ, 4 unknown\n";
+        line 9: msb differs: given 1 = 1, answered 1\n\
+        5 compared, 3 differ, 4 unknown\n";
     assert_eq!(rt; str::from_utf8(&output), Ok(text));
-    assert_eq!(rt; (tally.compared, tally.differ, tally.unknown), (4, 2, 4));
+    assert_eq!(rt; (tally.compared, tally.differ, tally.unknown), (5, 3, 4));
     assert_eq!(rt; tally.status(), 1);
     Ok(())
 }

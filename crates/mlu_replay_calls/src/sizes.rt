@@ -14,7 +14,7 @@ pub fn has_variables(entries: usize, variables: usize) -> bool
     entries.is_power_of_two() && log2_strict_usize(entries) == variables
 }
 
-/// Tests that a table of so many variables is as large as two others together.
+/// Tests that a table has as many variables as two others together.
 ///
 /// # Errors
 /// Where it has not as many variables as both.

@@ -47,15 +47,15 @@ case_line number case answer = differ_line number (first_word case.asked.now) ca
 abbrev pub disagreeing : Tally → ℕ
 disagreeing tally = tally.differ + tally.unknown
 
--- one case more differs
+-- the number of cases that differ has changed
 abbrev pub MoreDiffer : Tally → Tally → Type 0
 MoreDiffer old new = new.differ ≢ old.differ
 
--- one line more is no case
+-- the number of lines that are no case has changed
 abbrev pub MoreUnknown : Tally → Tally → Type 0
 MoreUnknown old new = new.unknown ≢ old.unknown
 
--- the line is written for a case whose given answer, which ends it, is not the library's
+-- the line is written for a case whose given answer, which ends it, is another than the one that is told
 abbrev pub TellsDiffering : ℕ → List ℕ → Option (List ℕ) → Option (List ℕ) → Type 0
 TellsDiffering number line old new =
     (asked given answer : List ℕ) × (line ≡ asked ++ (codes " = " ++ given)) × (given ≢ answer) × Appends old new (differ_line number (first_word asked) given answer)

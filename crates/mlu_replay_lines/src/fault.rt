@@ -33,7 +33,7 @@ pub enum Reason {
     Length,
     /// The call does not take operands of these sizes.
     Size,
-    /// The answer has more entries than the program makes.
+    /// A table or a point would have more entries than the program makes.
     Large,
 }
 
@@ -55,7 +55,7 @@ impl Reason {
             Reason::Choice => "a word is none of the two that it can be",
             Reason::Length => "the length of a table is no power of two",
             Reason::Size => "the call does not accept these sizes",
-            Reason::Large => "the answer would have more than 2^24 entries",
+            Reason::Large => "a table or a point would have more than 2^24 entries",
         }
     }
 }

@@ -26,9 +26,10 @@ pub struct Tally {
 }
 
 impl Tally {
-    /// The status that the program ends with: 0 exactly where no case differs and no line is unknown.
+    /// The status that the program ends with: 0 exactly where no case differs and no line is unknown, else 1.
     pub fn status(self) -> u8
-        ensures { (result ≡ 0) ↔ ((self.differ ≡ 0) × (self.unknown ≡ 0)) }
+        ensures none { (result ≡ 0) ↔ ((self.differ ≡ 0) × (self.unknown ≡ 0)) }
+        ensures most { result ≤ 1 }
     {
         if self.differ == 0 && self.unknown == 0 {
             0
@@ -68,7 +69,7 @@ pub fn replay_streams<A: Answers, R: Read + Drop, W: Write + Drop>(
 /// count. Where the bytes of the input are known, as many lines are compared or unknown as it has.
 ///
 /// # Errors
-/// Where the input cannot be read, or has 2^64 lines; where a write fails, or memory is refused.
+/// Where the input cannot be read, or has 2^64 - 1 lines or more; where a write fails, or memory is refused.
 pub fn replay<A: Answers, R: BufRead, W: Write>(
     alloc: Global,
     input: &mut R,

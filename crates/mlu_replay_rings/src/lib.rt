@@ -19,6 +19,9 @@ use std::alloc::{AllocError, Global};
 /// The call that compares all others with their definitions, up to a number of variables.
 const SWEEP: &str = "sweep";
 
+/// The most variables of a sweep.
+const MOST_VARIABLES: usize = 24;
+
 /// The answer over the rings that the tag names, at a lane width.
 macro_rules! over_rings {
     ($width:literal, $op:ident, $words:ident) => {
@@ -72,6 +75,15 @@ fn sixteen_lanes(op: &str, words: &mut Words<'_>) -> Result<String, Fault> {
     over_rings!(16, op, words)
 }
 
+/// Up to how many variables a sweep goes.
+fn most_variables(words: &mut Words<'_>) -> Result<usize, Fault> {
+    let most = words.number()?;
+    if most > MOST_VARIABLES {
+        return Err(Fault::Unknown(Reason::Large));
+    }
+    Ok(most)
+}
+
 /// What a sweep has found, in words.
 fn found(
     alloc: Global,
@@ -93,7 +105,7 @@ where
     requires { W < 32 }
 {
     if op == SWEEP {
-        let (alloc, most) = (words.alloc(), words.number()?);
+        let (alloc, most) = (words.alloc(), most_variables(words)?);
         return found(alloc, sweep::<BabyBear<W>, BabyBear<W>>(alloc, most));
     }
     over_itself::<BabyBear<W>>(op, words)
@@ -106,7 +118,7 @@ where
     requires { W < 32 }
 {
     if op == SWEEP {
-        let (alloc, most) = (words.alloc(), words.number()?);
+        let (alloc, most) = (words.alloc(), most_variables(words)?);
         return found(alloc, sweep::<WrappingU64<W>, WrappingU64<W>>(alloc, most));
     }
     over_itself::<WrappingU64<W>>(op, words)
@@ -123,7 +135,7 @@ where
     requires { W < 32 }
 {
     if op == SWEEP {
-        let (alloc, most) = (words.alloc(), words.number()?);
+        let (alloc, most) = (words.alloc(), most_variables(words)?);
         return found(alloc, sweep::<BabyBear<W>, EF>(alloc, most));
     }
     mixed::answer::<BabyBear<W>, EF>(op, words)

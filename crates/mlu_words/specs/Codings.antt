@@ -14,7 +14,7 @@ pub record Coding (T : Type 0) : Type 0 where
 abbrev pub AreResidues : List ℕ → Type 0
 AreResidues ws = All (λ w. w < MODULUS) ws
 
--- each element has one word or more, all residues, and so many residues are the words of one element
+-- each element has one word or more, and so many residues are the words of one element
 pub record IsCoding {T : Type 0} (coding : Coding T) : Type 0 where
   pub some : 0 < coding.width
   pub length-words : (x : T) → length (coding.words x) ≡ coding.width

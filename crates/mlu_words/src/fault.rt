@@ -9,7 +9,7 @@ use std::alloc::AllocError;
 pub enum Fault {
     /// An operand has a number of words that it cannot have.
     Length,
-    /// The sizes of the operands do not fit one another.
+    /// The sizes of the operands do not fit one another, or there is no variable to fold.
     Arity,
     /// A word that is read is the modulus or more.
     Residue,

@@ -24,7 +24,7 @@ pub fn transpose<F: Field + Element>(words: &mut Words<'_>) -> Result<String, Fa
     Ok(format!(in words.alloc(); "{width}/{values}")?)
 }
 
-/// `eval_eq_batch`: whether the output counts, points, scalars and the output.
+/// `eq_batch`: whether the output counts, points, scalars and the output.
 pub fn eq_batch<F: Field, EF: ExtensionField<F> + Element>(
     words: &mut Words<'_>,
 ) -> Result<String, Fault> {
@@ -42,7 +42,7 @@ pub fn eq_batch<F: Field, EF: ExtensionField<F> + Element>(
     list_word(alloc, &out)
 }
 
-/// `eval_eq_base_batch`: whether the output counts, points, scalars and the output.
+/// `eq_base_batch`: whether the output counts, points, scalars and the output.
 pub fn eq_base_batch<F: Field + Element, EF: ExtensionField<F> + Element>(
     words: &mut Words<'_>,
 ) -> Result<String, Fault> {

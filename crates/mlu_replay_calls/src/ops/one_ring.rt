@@ -66,7 +66,6 @@ fn of_table<F: SelfAlgebra + Element>(op: &str, words: &mut Words<'_>) -> Result
             table_word(alloc, table)
         }
         "pad_zeros" => pad_zeros::<F>(words),
-        "fix_prefix_var_mut" => fix_prefix_var_mut::<F, F>(words),
         _ => folded_in_place::<F>(op, words),
     }
 }
@@ -78,6 +77,7 @@ fn folded_in_place<F: SelfAlgebra + Element>(
 ) -> Result<String, Fault> {
     let alloc = words.alloc();
     match op {
+        "fix_prefix_var_mut" => fix_prefix_var_mut::<F, F>(words),
         "fix_suffix_var_mut" => {
             let (mut table, r) = words.larger_table_and_element::<F, F>()?;
             table.fix_suffix_var_mut(r);
