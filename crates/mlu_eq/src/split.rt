@@ -1,8 +1,8 @@
 //! A table in two halves: `eq0`, a slice, and `eq1`, scalar or packed weights.
 //!
 //! Entry `x` of the table is `eq0[x / n] * w[x % n]`, where `w` are the `n` weights of `eq1`. None of the
-//! calls takes memory: dots and compressions keep up to 1024 elements or packed places on the stack, where
-//! these are small ([`mlu_kernel::small`]).
+//! calls takes memory: dots and compressions keep up to 2048 elements, 1024 packed places or 1280 packed
+//! values of the base on the stack, where these are small ([`mlu_kernel::small`]).
 
 pub(crate) mod accumulate;
 mod constants;

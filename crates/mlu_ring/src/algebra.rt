@@ -1,11 +1,12 @@
-//! Rings that another ring embeds in, and is a scalar of.
+//! Rings that another ring is mapped to, and is a scalar of.
 ghost use Rattle.std.specs.Prelude.{◌≡◌};
 ghost use Rattle.mlu_ring.specs.Ring.{IsRingMap};
 
 use crate::additive::Additive;
 use crate::ring::PrimeCharacteristicRing;
 
-/// A ring with an embedding of the ring `B`, which keeps zero, one, sums and products.
+/// A ring with a map of the ring `B` to it, which keeps zero, one, sums and products. It need not be one
+/// to one: all elements have one image in no copies of a ring.
 pub trait Algebra<B: Additive>: PrimeCharacteristicRing {
     ghost embed: { B → Self };
 

@@ -86,7 +86,7 @@ pub trait PackedFieldExtension<F: Field, EF: ExtensionField<F>>: PrimeCharacteri
         requires { length values.now ≡ F.Packing.WIDTH }
         ensures { ext_lanes result ≡ values.now };
 
-    /// Writes the lanes. Asks for room for as many values as a packing has lanes.
+    /// Writes the lanes. Asks for as many places as a packing has lanes.
     fn store_ext(&self, out: &mut [EF])
         requires { length out.old ≡ F.Packing.WIDTH }
         ensures { out.new ≡ ext_lanes self.now };

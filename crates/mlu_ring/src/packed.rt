@@ -28,7 +28,7 @@ pub trait PackedValue: Additive {
         requires { length values.now ≡ WIDTH }
         ensures { lanes result ≡ values.now };
 
-    /// Writes the lanes. Asks for room for `WIDTH` values.
+    /// Writes the lanes. Asks for `WIDTH` places.
     fn store(&self, out: &mut [Self::Value])
         requires { length out.old ≡ WIDTH }
         ensures { out.new ≡ lanes self.now };

@@ -25,7 +25,8 @@ pub trait PrefixCompression<F: Field, EF: ExtensionField<F>, T: PrimeCharacteris
     ghost width: { ℕ };
 
     /// Adds to `out` a row for each of `run` entries of `eq0` from `start` on and each weight of
-    /// `eq1`. Asks for a run that is not empty, and for its rows alone, as long as `out` has lanes.
+    /// `eq1`, times that entry of the table `moved`. Asks for a run that is not empty, and for its rows
+    /// alone, as long as `out` has lanes.
     fn add_run(
         eq0: &[EF],
         eq1: &EqMaybePacked<F, EF>,
@@ -167,7 +168,7 @@ fn add_border<F: Field, EF: ExtensionField<F>>(
     add_scalar_row(out, border, &rows[..out.len()]);
 }
 
-/// Adds the rows of `entries` to `out`, each times its weight, in runs of `run_length` entries of
+/// Adds the rows of `entries` to `out`, each times its entry of the table, in runs of `run_length` entries of
 /// `eq0`, the last one perhaps shorter. What the accumulator held does not count, and what it then
 /// holds is not promised.
 ///

@@ -77,8 +77,8 @@ impl<F: Field, EF: ExtensionField<F>> SuffixCompression<F, EF> for Shifted {
     ghost length_moved = { length-moved_up EF.ring.zero };
 }
 
-/// Writes the dot of the split table with each row of `entries`. What `out` held does not
-/// count.
+/// Writes the dot of the split table with each row of `entries`, as long as the table. What `out`
+/// held does not count.
 ///
 /// Asks for a first half that is not empty, and for as many rows as `out` has places.
 pub fn compress_suffix_into<F: Field, EF: ExtensionField<F>>(
@@ -94,8 +94,8 @@ pub fn compress_suffix_into<F: Field, EF: ExtensionField<F>>(
     compress_rows::<F, EF, Plain>(eq0, eq1, out, entries);
 }
 
-/// Writes the dot of the table with each row of `entries`. What `out` held does not
-/// count.
+/// Writes the dot of the split table moved up by one place, zero and all entries but the last, with each
+/// row of `entries`, as long as the table. What `out` held does not count.
 ///
 /// Asks for a first half that is not empty, and for as many rows as `out` has places.
 pub fn compress_suffix_shifted_into<F: Field, EF: ExtensionField<F>>(

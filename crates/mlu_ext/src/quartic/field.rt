@@ -25,7 +25,7 @@ impl<const W: usize> Field for QuarticExtension<BabyBear<W>> {
         size_of::<Self>()
     }
 
-    // Each coefficient is reduced once for each 2^30 places.
+    // Each of the sixteen sums of products of coefficients is reduced once for each 2^30 places.
     #[inline]
     fn dot(l: &[Self], r: &[Self]) -> Self {
         let constant = column_times_rows(l, 0, r);

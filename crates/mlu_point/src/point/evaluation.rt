@@ -35,8 +35,9 @@ impl<F: Field> Point<F> {
         Ok(Point::new(coords))
     }
 
-    /// The point `(y^(2^(n-1)), .., y^2, y)`, at which a table has the value at `y` of the
-    /// polynomial with its entries as coefficients.
+    /// The point `(y^(2^(n-1)), .., y^2, y)`. Monomial folds of a table at its coordinates, in order,
+    /// leave the value at `y` of the polynomial with the entries as coefficients; the value of the table
+    /// at this point is another.
     ///
     /// # Errors
     /// Where memory is refused; never where `n` is 0.

@@ -168,8 +168,8 @@ impl<F: Lanewise> PointView<'_, F> {
 
     /// Writes the scale times each weight, in the order that `order` says, in chunks of `2^low_variables` entries.
     /// The other coordinates are the high ones, the first for [`BitOrder::Msb`] and the last for
-    /// [`BitOrder::Lsb`]: each chunk begins with one of their weights. Takes `2^n - 1` products of
-    /// the meter and none else, where there are `n` coordinates.
+    /// [`BitOrder::Lsb`]: each chunk is made of the scale times one of their weights. Takes `2^n - 1`
+    /// products of the meter and none else, where there are `n` coordinates.
     ///
     /// Asks for `2^n` places, and that `low_variables <= n`.
     ///
