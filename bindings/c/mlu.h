@@ -15,7 +15,8 @@
  * overlaps no other operand. With no words the pointer is not read, and may be any. A call may be
  * made from any thread, but from no signal handler.
  *
- * Points, scales, scalars, challenges, claims, rounds and every output are of the extension.
+ * Points, those of a batch too, scales, scalars, challenges, claims, rounds and every output are of
+ * the extension.
  */
 #ifndef MLU_H
 #define MLU_H
