@@ -1,4 +1,5 @@
 //! What is written of lines, and their count; streams that fail.
+ghost use Rattle.std.specs.Prelude.{⊤};
 
 use mlu_replay_lines::fault::{Fault, Reason};
 use mlu_replay_lines::replay::{Answers, Tally, replay};
@@ -12,6 +13,8 @@ use std::{io, str};
 struct Fixed;
 
 impl Answers for Fixed {
+    ghost gives = { λ asked answer. ⊤ };
+
     fn answer(alloc: Global, asked: &str) -> Result<String, Fault> {
         let answer = match asked {
             "msb 4 b 2,3" => "2,2013265918,2013265917,6",

@@ -5,6 +5,7 @@ use crate::{
     batches, commands, compressions, evaluations, folds, packings, points, polys, splits, storages,
     successors, tables, unfailing, weights,
 };
+use mlu_command::Fault;
 
 /// A call, by the file that it stands in.
 #[derive(Clone, Copy)]
@@ -14,6 +15,8 @@ pub enum Call {
     Command(&'static str, &'static str),
     Compression(compressions::Call),
     Evaluation(evaluations::Call),
+    /// The line, and the fault of its words.
+    Faulty(&'static str, Fault),
     Fold(folds::Call),
     Packing(packings::Call),
     Point(points::Call),
@@ -58,6 +61,7 @@ impl Call {
         !matches!(
             self,
             Call::Unfailing(_)
+                | Call::Faulty(..)
                 | Call::Evaluation(evaluations::Call::Below)
                 | Call::Words(evaluations::Call::EvalBase(_))
         )

@@ -4,7 +4,7 @@ use crate::answers::gives;
 use crate::calls;
 use crate::calls::Call::{Evaluation, Words};
 use crate::given::Receiver::{self, Owner, View};
-use crate::given::{counted, is_counted, point};
+use crate::given::{counted, counted_from, is_counted, point};
 use crate::outcome::{Outcome, judge};
 use mlu_point::point::Point;
 use mlu_ring::{ExtensionField, Field};
@@ -54,9 +54,9 @@ pub fn made<R: ExtensionField<R>>(alloc: Global, call: Call) -> Result<Outcome, 
 /// Does not fail.
 fn below<R: ExtensionField<R>>(alloc: Global) -> Result<Outcome, AllocError> {
     let point = &point::<R>(alloc, &[2; 8])?;
-    let poly = counted::<R>(alloc, 256)?;
-    let of_base = poly.eval_base(alloc, point) == Ok(element(511));
-    let of_extension = poly.eval_ext::<R>(alloc, point) == Ok(element(511));
+    let poly = counted_from::<R>(alloc, R::ZERO, 256)?;
+    let of_base = poly.eval_base(alloc, point) == Ok(element(510));
+    let of_extension = poly.eval_ext::<R>(alloc, point) == Ok(element(510));
     Ok(judge(Ok(of_base), of_extension))
 }
 

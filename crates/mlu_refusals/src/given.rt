@@ -32,11 +32,22 @@ pub fn point<R: Additive>(alloc: Global, numbers: &[i32]) -> Result<Point<R>, Al
 pub fn counted<R: Additive>(alloc: Global, entries: usize) -> Result<Poly<R>, AllocError>
     ensures { IfOk result (λ poly. length poly ≡ entries) }
 {
+    counted_from(alloc, R::ONE, entries)
+}
+
+/// The polynomial with the value `first` and then each time one more, of so many entries.
+pub fn counted_from<R: Additive>(
+    alloc: Global,
+    first: R,
+    entries: usize,
+) -> Result<Poly<R>, AllocError>
+    ensures { IfOk result (λ poly. length poly ≡ entries) }
+{
     let mut evals = Vec::with_capacity(alloc, entries)?;
-    let mut value = R::ZERO;
+    let mut value = first;
     for _ in 0..entries {
-        value = value + R::ONE;
         evals.push(value)?;
+        value = value + R::ONE;
     }
     if evals.len() != entries || !entries.is_power_of_two() {
         return Err(AllocError);

@@ -26,6 +26,7 @@ fn made<R: ExtensionField<R> + Sample + SelfAlgebra + MapFrom<R>>(
         Call::Command(line, text) => commands::made(alloc, line, text),
         Call::Compression(call) => compressions::made::<R>(alloc, call),
         Call::Evaluation(call) => evaluations::made::<R>(alloc, call),
+        Call::Faulty(line, fault) => commands::made_faulty(alloc, line, fault),
         Call::Fold(call) => folds::made::<R>(alloc, call),
         Call::Packing(call) => packings::made::<R>(alloc, call),
         Call::Point(call) => points::made::<R>(alloc, call),

@@ -1,4 +1,5 @@
 //! Lines replayed, with a buffer for each stream.
+ghost use Rattle.std.specs.Prelude.{◌≡◌, codes};
 
 use crate::outcome::Outcome;
 use mlu_replay_lines::fault::Fault;
@@ -11,6 +12,8 @@ use std::io::{self, Write};
 struct One;
 
 impl Answers for One {
+    ghost gives = { λ asked answer. answer ≡ codes "1" };
+
     fn answer(alloc: Global, _: &str) -> Result<String, Fault> {
         Ok(String::from_str(alloc, "1")?)
     }

@@ -7,6 +7,8 @@
 //! [`mlu_replay_lines::replay::replay_streams`] is the whole program but for the answers.
 #![tactic(auto)]
 
+ghost use Rattle.std.specs.Prelude.{⊤};
+
 use mlu_replay_lines::fault::Fault;
 use mlu_replay_lines::replay::{Answers, replay_streams};
 use mlu_replay_rings::answer;
@@ -17,6 +19,8 @@ use std::process::ExitCode;
 struct Library;
 
 impl Answers for Library {
+    ghost gives = { λ asked answer. ⊤ };
+
     fn answer(alloc: Global, asked: &str) -> Result<String, Fault> {
         answer(alloc, asked)
     }

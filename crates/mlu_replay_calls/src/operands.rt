@@ -49,6 +49,18 @@ impl Words<'_> {
         read_list(self.alloc(), word)
     }
 
+    /// Two lists of the same length.
+    pub fn two_lists<A: Element, B: Element>(&mut self) -> Result<(Vec<A>, Vec<B>), Fault>
+        ensures { IfOk result (λ x. length x.0.items ≡ length x.1.items) }
+    {
+        let first = self.list()?;
+        let second: Vec<B> = self.list()?;
+        if first.len() != second.len() {
+            return Err(Fault::Unknown(Reason::Size));
+        }
+        Ok((first, second))
+    }
+
     /// A table.
     pub fn table<T: Element>(&mut self) -> Result<Poly<T>, Fault>
         ensures { IfOk result (λ table. IsTaken (words_left self.old) (words_left self.new) (λ word. IsListWord T.stands word table)) }

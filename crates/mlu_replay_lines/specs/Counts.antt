@@ -1,5 +1,5 @@
 -- How many cases there are, and what the program says of all of them.
-use Rattle.std.specs.Prelude.{◌≡◌, ◌≢◌, ℕ, ◌+◌, List, [], ◌∷◌, ◌++◌, ◌==◌, if◌then◌else◌, ◌⊎◌, None, IsUtf8, codes, decimal}
+use Rattle.std.specs.Prelude.{◌≡◌, ◌≢◌, ℕ, ◌+◌, ◌<◌, List, [], ◌∷◌, ◌++◌, length, ◌==◌, if◌then◌else◌, ◌⊎◌, ⊤, None, IsUtf8, codes, decimal}
 use Rattle.mlu_replay_lines.specs.Faults.{reason_text}
 use Rattle.std.specs.List.{before_first}
 use Rattle.mlu_replay_lines.specs.declared.fault.Reason.{Reason}
@@ -8,15 +8,32 @@ use Rattle.mlu_replay_lines.specs.declared.replay.Case.{Case}
 use Rattle.mlu_replay_lines.specs.declared.replay.Tally.{Tally}
 use Rattle.mlu_replay_lines.specs.declared.stop.Stop.{Stop}
 use Rattle.mlu_replay_lines.specs.declared.stop.Stop.TheVariants.{Read, Memory, Write}
-use Rattle.std.specs.Str.Pattern.{FindsText}
+use Rattle.std.specs.Str.Pattern.{FindsText, LacksTextAt}
 use Rattle.std.specs.Io.KnownBytes.{Appends}
 use Rattle.std.specs.declared.option.Option.{Option}
 
--- the number of lines: one for each line feed, and one for bytes after the last of them
-abbrev pub line_count : List ℕ → ℕ
-line_count [] = 0
-line_count (byte ∷ []) = 1
-line_count (byte ∷ next ∷ rest) = (if byte == 10 then 1 else 0) + line_count (next ∷ rest)
+-- the byte in front of the first line, or as the only one
+abbrev pub with_byte : ℕ → List (List ℕ) → List (List ℕ)
+with_byte byte [] = (byte ∷ []) ∷ []
+with_byte byte (line ∷ later) = (byte ∷ line) ∷ later
+
+-- the lines without their line feeds; bytes after the last line feed are one too
+abbrev pub lines_of : List ℕ → List (List ℕ)
+lines_of [] = []
+lines_of (byte ∷ rest) = if byte == 10 then [] ∷ lines_of rest else with_byte byte (lines_of rest)
+
+-- a case: what is asked, up to the first equals sign between spaces, and behind that what is given
+abbrev pub IsCase : List ℕ → List ℕ → List ℕ → Type 0
+IsCase line asked given = (line ≡ asked ++ (codes " = " ++ given)) × ((i : ℕ) → i < length asked → LacksTextAt (codes " = ") line i)
+
+-- a case that gives one of the answers to what it asks
+abbrev pub Agrees : (List ℕ → List ℕ → Type 0) → List ℕ → Type 0
+Agrees gives line = (asked given : List ℕ) × IsCase line asked given × gives asked given
+
+-- each of the lines is such a case
+abbrev pub AllAgree : (List ℕ → List ℕ → Type 0) → List (List ℕ) → Type 0
+AllAgree gives [] = ⊤
+AllAgree gives (line ∷ later) = Agrees gives line × AllAgree gives later
 
 -- known bytes stay at the front
 abbrev pub Grows : Option (List ℕ) → Option (List ℕ) → Type 0
@@ -55,10 +72,10 @@ MoreDiffer old new = new.differ ≢ old.differ
 abbrev pub MoreUnknown : Tally → Tally → Type 0
 MoreUnknown old new = new.unknown ≢ old.unknown
 
--- the line is written for a case whose given answer, which ends it, is another than the one that is told
-abbrev pub TellsDiffering : ℕ → List ℕ → Option (List ℕ) → Option (List ℕ) → Type 0
-TellsDiffering number line old new =
-    (asked given answer : List ℕ) × (line ≡ asked ++ (codes " = " ++ given)) × (given ≢ answer) × Appends old new (differ_line number (first_word asked) given answer)
+-- the line is written for a case that gives another answer than the one that is told
+abbrev pub TellsDiffering : (List ℕ → List ℕ → Type 0) → ℕ → List ℕ → Option (List ℕ) → Option (List ℕ) → Type 0
+TellsDiffering gives number line old new =
+    (asked given answer : List ℕ) × IsCase line asked given × gives asked answer × (given ≢ answer) × Appends old new (differ_line number (first_word asked) given answer)
 
 -- the line is written for one that is no case, with some reason
 abbrev pub TellsUnknown : ℕ → Option (List ℕ) → Option (List ℕ) → Type 0

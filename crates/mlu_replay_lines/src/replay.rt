@@ -1,11 +1,12 @@
 //! Cases answered line by line, and their count.
-ghost use Rattle.std.specs.Prelude.{◌≡◌, ◌≢◌, ◌+◌, ◌<◌, ◌≤◌, ◌^◌, ◌↔◌, [], ◌++◌, codes, true, false, IfOk, IfErr, IfSome, OnOk};
+ghost use Rattle.std.specs.Prelude.{◌≡◌, ◌≢◌, ◌+◌, ◌<◌, ◌≤◌, ◌^◌, ◌↔◌, ℕ, List, [], length, string_bytes};
+ghost use Rattle.std.specs.Prelude.{true, false, IfOk, IfErr, IfSome, OnOk};
 ghost use Rattle.std.specs.Io.KnownBytes.{Appends, IsAtEnd};
 ghost use Rattle.std.specs.IoError.{error_kind};
 ghost use Rattle.std.specs.Io.BufRead.{DropsThrough, first_piece};
-ghost use Rattle.mlu_replay_lines.specs.Counts.{Grows, GrowsTo, IsNoCase, MoreDiffer, MoreUnknown};
+ghost use Rattle.mlu_replay_lines.specs.Counts.{Agrees, AllAgree, Grows, GrowsTo, IsCase, IsNoCase, MoreDiffer, MoreUnknown};
 ghost use Rattle.mlu_replay_lines.specs.Counts.{TellsDiffering, TellsUnknown, case_line, count_line, disagreeing};
-ghost use Rattle.mlu_replay_lines.specs.Counts.{first_word, line_count, unknown_line};
+ghost use Rattle.mlu_replay_lines.specs.Counts.{first_word, lines_of, unknown_line};
 ghost use Rattle.mlu_replay_lines.specs.Faults.{reason_text};
 
 use crate::fault::{Fault, Reason};
@@ -41,11 +42,14 @@ impl Tally {
 
 /// What answers the cases.
 pub trait Answers {
+    ghost gives: { List ℕ → List ℕ → Type 0 };
+
     /// The answer to what is asked: the call, the width, the tag of the rings, and the operands.
     ///
     /// # Errors
     /// Where the call, its rings or its operands are none that there are, and where memory is refused.
-    fn answer(alloc: Global, asked: &str) -> Result<String, Fault>;
+    fn answer(alloc: Global, asked: &str) -> Result<String, Fault>
+        ensures { IfOk result (λ text. gives asked.now (string_bytes text)) };
 }
 
 /// As [`replay`], with a buffer for each stream.
@@ -57,8 +61,9 @@ pub fn replay_streams<A: Answers, R: Read + Drop, W: Write + Drop>(
     input: R,
     out: W,
 ) -> Result<Tally, Stop>
-    ensures lines { IfOk result (λ tally. IfSome (R.remaining input) (λ bytes. tally.compared + tally.unknown ≡ line_count bytes)) }
+    ensures lines { IfOk result (λ tally. IfSome (R.remaining input) (λ bytes. tally.compared + tally.unknown ≡ length (lines_of bytes))) }
     ensures within { IfOk result (λ tally. tally.differ ≤ tally.compared) }
+    ensures agree { IfOk result (λ tally. disagreeing tally ≡ 0 → IfSome (R.remaining input) (λ bytes. AllAgree A.gives (lines_of bytes))) }
 {
     let mut input = BufReader::new(alloc, input).map_err(|_| Stop::Memory)?;
     let mut out = BufWriter::new(alloc, out).map_err(|_| Stop::Memory)?;
@@ -75,8 +80,9 @@ pub fn replay<A: Answers, R: BufRead, W: Write>(
     input: &mut R,
     out: &mut W,
 ) -> Result<Tally, Stop>
-    ensures lines { IfOk result (λ tally. IfSome (R.remaining input.old) (λ bytes. tally.compared + tally.unknown ≡ line_count bytes)) }
+    ensures lines { IfOk result (λ tally. IfSome (R.remaining input.old) (λ bytes. tally.compared + tally.unknown ≡ length (lines_of bytes))) }
     ensures within { IfOk result (λ tally. tally.differ ≤ tally.compared) }
+    ensures agree { IfOk result (λ tally. disagreeing tally ≡ 0 → IfSome (R.remaining input.old) (λ bytes. AllAgree A.gives (lines_of bytes))) }
     ensures last { IfOk result (λ tally. GrowsTo (W.contents out.old) (W.contents out.new) (count_line tally)) }
 {
     let mut tally = Tally::default();
@@ -132,7 +138,7 @@ impl<'a> Case<'a> {
     /// # Errors
     /// Where it is no UTF-8 text, or has no ` = `.
     fn read(line: &'a [u8]) -> Result<Self, Reason>
-        ensures case { IfOk result (λ case. line.now ≡ case.asked.now ++ (codes " = " ++ case.given.now)) }
+        ensures case { IfOk result (λ case. IsCase line.now case.asked.now case.given.now) }
         ensures none { IfErr result (λ reason. IsNoCase line.now reason) }
     {
         let text = str::from_utf8(line).map_err(|_| Reason::Text)?;
@@ -163,8 +169,10 @@ fn replay_line<A: Answers, W: Write>(
     requires fits { tally.old.compared + tally.old.unknown + 1 < 2 ^ 64 }
     ensures one { IfOk result (λ _. tally.new.compared + tally.new.unknown ≡ tally.old.compared + tally.old.unknown + 1) }
     ensures within { IfOk result (λ _. tally.new.differ ≤ tally.new.compared) }
+    ensures more { IfOk result (λ _. disagreeing tally.old ≤ disagreeing tally.new) }
+    ensures agrees { OnOk result (disagreeing tally.new ≡ disagreeing tally.old → Agrees A.gives line.now) }
     ensures same { OnOk result (disagreeing tally.new ≡ disagreeing tally.old → Appends (W.contents out.old) (W.contents out.new) []) }
-    ensures differs { OnOk result (MoreDiffer tally.old tally.new → TellsDiffering number line.now (W.contents out.old) (W.contents out.new)) }
+    ensures differs { OnOk result (MoreDiffer tally.old tally.new → TellsDiffering A.gives number line.now (W.contents out.old) (W.contents out.new)) }
     ensures unknown { OnOk result (MoreUnknown tally.old tally.new → TellsUnknown number (W.contents out.old) (W.contents out.new)) }
     ensures grows { OnOk result (Grows (W.contents out.old) (W.contents out.new)) }
     ensures stop { IfErr result (λ stop. stop ≢ Stop.Read) }
@@ -216,7 +224,8 @@ fn report_unknown<W: Write>(number: u64, reason: Reason, out: &mut W) -> Result<
 
 /// The case of a line, and its answer.
 fn answered<A: Answers>(alloc: Global, line: &[u8]) -> Result<(Case<'_>, String), Fault>
-    ensures { IfOk result (λ both. line.now ≡ both.0.asked.now ++ (codes " = " ++ both.0.given.now)) }
+    ensures case { IfOk result (λ both. IsCase line.now both.0.asked.now both.0.given.now) }
+    ensures answer { IfOk result (λ both. A.gives both.0.asked.now (string_bytes both.1)) }
 {
     let case = Case::read(line)?;
     let answer = A::answer(alloc, case.asked)?;

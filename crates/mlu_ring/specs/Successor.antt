@@ -27,6 +27,6 @@ moved_up x w = x ∷ take (length w - 1) w
 abbrev pub shifted : {R : Type 0} → Ring R → List R → List R
 shifted ring w = moved_up ring.zero w
 
--- each weight times a, and the one before it times b: before the first stands the boundary
+-- each weight times a, plus the one before it times b, or plus the boundary for the first
 abbrev pub next_chunk : {R : Type 0} → Ring R → R → R → R → List R → List R
 next_chunk ring a b boundary w = zip2 ring.sum (map (ring.product a) w) (moved_up boundary (map (ring.product b) w))

@@ -45,7 +45,7 @@ IsAffineInEach {R} ring n f = (p : List R) (i : ℕ) (c : R) → length p ≡ n 
 abbrev pub HasAtVertices : {R : Type 0} → Ring R → ℕ → (List R → R) → List R → Type 0
 HasAtVertices ring n f e = (x : ℕ) → x < 2 ^ n → f (vertex ring n x) ≡ slice_index_or e x ring.zero
 
--- the only function of n coordinates, affine in each, that has the entries at the vertices is the value of the table
+-- once it has the entries at the vertices, the function is the value of the table at each point of n coordinates
 abbrev pub VerticesDetermine : {R : Type 0} → Ring R → ℕ → (List R → R) → List R → Type 0
 VerticesDetermine {R} ring n f e = HasAtVertices ring n f e → (p : List R) → length p ≡ n → f p ≡ value ring e p
 
@@ -98,7 +98,7 @@ powers ring y n = map (λ i. power ring y (2 ^ (n - 1 - i))) (range_with_len 0 n
 unfoldable pub univariate : {R : Type 0} → Ring R → List R → R → R
 univariate ring e y = sum_below ring (length e) (λ i. ring.product (slice_index_or e i ring.zero) (power ring y i))
 
--- the table folded at the coordinates in order, each entry of the upper half times the coordinate
+-- the table folded at the coordinates in order: to the lower half comes the coordinate times the upper half
 abbrev pub monomial_folds : {R : Type 0} → Ring R → List R → List R → List R
 monomial_folds ring e [] = e
 monomial_folds ring e (c ∷ cs) = monomial_folds ring (front ring (ring.one ∷ c ∷ []) e) cs

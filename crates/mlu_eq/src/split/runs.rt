@@ -3,8 +3,8 @@
 //!
 //! Nothing is carried from one run to the next: what a run needs of the entry before it is made
 //! again from its index.
-ghost use Rattle.std.specs.Prelude.{◌≡◌, ◌+◌, ◌*◌, ◌<◌, ◌≤◌, ◌∷◌, [], ℕ, List, length, map, refl};
-ghost use Rattle.mlu_ring.specs.Lanes.{IsLaneByLane};
+ghost use Rattle.std.specs.Prelude.{◌≡◌, ◌+◌, ◌*◌, ◌<◌, ◌≤◌, ◌∷◌, [], ℕ, List, length, map, slice_index_or, refl};
+ghost use Rattle.mlu_ring.specs.Lanes.{IsLaneByLane, IsLists};
 ghost use Rattle.mlu_ring.specs.Successor.{shifted};
 ghost use Rattle.mlu_kernel.specs.Kernels.{plus_rows, AddsRows};
 ghost use Rattle.mlu_eq.specs.Split.{border_weight, contents, moved_run, run_of};
@@ -21,6 +21,8 @@ pub trait PrefixCompression<F: Field, EF: ExtensionField<F>, T: PrimeCharacteris
     ghost moved: { List EF → List EF };
 
     ghost lanes: { T → List EF };
+
+    ghost of_lanes: { List EF → T };
 
     ghost width: { ℕ };
 
@@ -43,7 +45,7 @@ pub trait PrefixCompression<F: Field, EF: ExtensionField<F>, T: PrimeCharacteris
 
     ghost length_moved: { (w : List EF) → 0 < length w → length (moved w) ≡ length w };
 
-    ghost length_lanes: { (p : T) → length (lanes p) ≡ width };
+    ghost lanes_are: { IsLists width lanes of_lanes };
 
     ghost lane_by_lane: { IsLaneByLane width lanes T.ring EF.ring };
 }
@@ -52,11 +54,13 @@ pub trait PrefixCompression<F: Field, EF: ExtensionField<F>, T: PrimeCharacteris
 pub struct Plain;
 
 impl<F: Field, EF: ExtensionField<F>> PrefixCompression<F, EF, EF> for Plain {
-    ghost use Rattle.mlu_ring.proofs.TrivialExtension.{one_lane};
+    ghost use Rattle.mlu_ring.proofs.TrivialExtension.{one_coefficient, one_lane};
 
     ghost moved = { λ w. w };
 
     ghost lanes = { λ x. x ∷ [] };
+
+    ghost of_lanes = { λ vs. slice_index_or vs 0 EF.ring.zero };
 
     ghost width = { 1 };
 
@@ -75,7 +79,7 @@ impl<F: Field, EF: ExtensionField<F>> PrefixCompression<F, EF, EF> for Plain {
 
     ghost length_moved = { λ w some. refl };
 
-    ghost length_lanes = { λ p. refl };
+    ghost lanes_are = { one_coefficient EF.ring.zero };
 
     ghost lane_by_lane = { one_lane EF.ring };
 }
@@ -87,6 +91,8 @@ impl<F: Field, EF: ExtensionField<F>> PrefixCompression<F, EF, EF::ExtensionPack
     ghost moved = { λ w. w };
 
     ghost lanes = { EF.ExtensionPacking.ext_lanes };
+
+    ghost of_lanes = { EF.ExtensionPacking.of_ext_lanes };
 
     ghost width = { F.Packing.WIDTH };
 
@@ -105,7 +111,7 @@ impl<F: Field, EF: ExtensionField<F>> PrefixCompression<F, EF, EF::ExtensionPack
 
     ghost length_moved = { λ w some. refl };
 
-    ghost length_lanes = { EF.ExtensionPacking.lanes_are.length-parts };
+    ghost lanes_are = { EF.ExtensionPacking.lanes_are };
 
     ghost lane_by_lane = { EF.ExtensionPacking.lane_by_lane };
 }
@@ -115,11 +121,13 @@ pub struct Shifted;
 
 impl<F: Field, EF: ExtensionField<F>> PrefixCompression<F, EF, EF> for Shifted {
     ghost use Rattle.mlu_ring.proofs.Shifted.{length-moved_up};
-    ghost use Rattle.mlu_ring.proofs.TrivialExtension.{one_lane};
+    ghost use Rattle.mlu_ring.proofs.TrivialExtension.{one_coefficient, one_lane};
 
     ghost moved = { shifted EF.ring };
 
     ghost lanes = { λ x. x ∷ [] };
+
+    ghost of_lanes = { λ vs. slice_index_or vs 0 EF.ring.zero };
 
     ghost width = { 1 };
 
@@ -140,7 +148,7 @@ impl<F: Field, EF: ExtensionField<F>> PrefixCompression<F, EF, EF> for Shifted {
 
     ghost length_moved = { length-moved_up EF.ring.zero };
 
-    ghost length_lanes = { λ p. refl };
+    ghost lanes_are = { one_coefficient EF.ring.zero };
 
     ghost lane_by_lane = { one_lane EF.ring };
 }

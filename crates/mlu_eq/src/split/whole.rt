@@ -17,7 +17,8 @@ pub fn append_entries<F: Field, EF: ExtensionField<F>>(
     table: &mut Vec<EF>,
 )
     requires { vec_len table.old + length eq0.now * length eq1.now.weights ≤ vec_capacity table.old }
-    ensures { table.new.items ≡ table.old.items ++ contents EF.ring eq0.now eq1.now.weights }
+    ensures items { table.new.items ≡ table.old.items ++ contents EF.ring eq0.now eq1.now.weights }
+    ensures capacity { vec_capacity table.new ≡ vec_capacity table.old }
 {
     match eq1.weights() {
         Weights::Scalar(weights) => push_rows(table, eq0, weights),
@@ -28,7 +29,8 @@ pub fn append_entries<F: Field, EF: ExtensionField<F>>(
 /// Appends the weights times each entry of `eq0`, row after row.
 fn push_rows<R: PrimeCharacteristicRing>(table: &mut Vec<R>, eq0: &[R], weights: &[R])
     requires { vec_len table.old + length eq0.now * length weights.now ≤ vec_capacity table.old }
-    ensures { table.new.items ≡ table.old.items ++ contents R.ring eq0.now weights.now }
+    ensures items { table.new.items ≡ table.old.items ++ contents R.ring eq0.now weights.now }
+    ensures capacity { vec_capacity table.new ≡ vec_capacity table.old }
 {
     for factor in eq0 {
         push_row(table, weights, *factor);
@@ -42,7 +44,8 @@ fn push_rows_of_lanes<F: Field, EF: ExtensionField<F>>(
     weights: &[EF::ExtensionPacking],
 )
     requires { vec_len table.old + length eq0.now * (length weights.now * F.Packing.WIDTH) ≤ vec_capacity table.old }
-    ensures { table.new.items ≡ table.old.items ++ packed_contents EF.ring EF.ExtensionPacking.ext_lanes eq0.now weights.now }
+    ensures items { table.new.items ≡ table.old.items ++ packed_contents EF.ring EF.ExtensionPacking.ext_lanes eq0.now weights.now }
+    ensures capacity { vec_capacity table.new ≡ vec_capacity table.old }
 {
     for factor in eq0 {
         push_row_of_lanes::<F, EF>(table, weights, *factor);

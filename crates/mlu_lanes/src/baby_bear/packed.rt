@@ -26,7 +26,7 @@ pub fn products<const W: usize>(
 pub fn scaled<const W: usize>(p: &Lanes<BabyBear<W>, W>, factor: u32) -> Simd<u64, W>
     requires { factor < MODULUS }
     ensures value { (j : ℕ) → j < W → slice_index result j ≡ residue p.now j * factor }
-    ensures least { (j : ℕ) → j < W → slice_index result j < MODULUS * MODULUS }
+    ensures below { (j : ℕ) → j < W → slice_index result j < MODULUS * MODULUS }
 {
     scaled_each(p, splat(factor))
 }
@@ -36,7 +36,7 @@ pub fn scaled<const W: usize>(p: &Lanes<BabyBear<W>, W>, factor: u32) -> Simd<u6
 pub fn scaled_each<const W: usize>(p: &Lanes<BabyBear<W>, W>, factors: Simd<u32, W>) -> Simd<u64, W>
     requires { (j : ℕ) → j < W → slice_index factors j < MODULUS }
     ensures value { (j : ℕ) → j < W → slice_index result j ≡ residue p.now j * slice_index factors.entry j }
-    ensures least { (j : ℕ) → j < W → slice_index result j < MODULUS * MODULUS }
+    ensures below { (j : ℕ) → j < W → slice_index result j < MODULUS * MODULUS }
 {
     residue_products(words_of(p), factors)
 }
@@ -84,7 +84,7 @@ pub fn residue_products<const W: usize>(a: Simd<u32, W>, b: Simd<u32, W>) -> Sim
     requires { (j : ℕ) → j < W → (slice_index a j < MODULUS) × (slice_index b j < MODULUS) }
     ensures value { (j : ℕ) → j < W → slice_index result j ≡ slice_index a.entry j * slice_index b.entry j }
     ensures small { (j : ℕ) → j < W → slice_index result j < 2 ^ 62 }
-    ensures least { (j : ℕ) → j < W → slice_index result j < MODULUS * MODULUS }
+    ensures below { (j : ℕ) → j < W → slice_index result j < MODULUS * MODULUS }
 {
     wide_products(widened(a), widened(b))
 }

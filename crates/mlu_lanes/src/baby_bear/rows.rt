@@ -68,7 +68,7 @@ pub fn row_scaled(residue: u32, row: Simd<u32, 4>) -> Simd<u64, 4>
     requires residue { residue < MODULUS }
     requires row { (j : ℕ) → j < 4 → slice_index row j < MODULUS }
     ensures value { (j : ℕ) → j < 4 → slice_index result j ≡ residue * slice_index row j }
-    ensures least { (j : ℕ) → j < 4 → slice_index result j < MODULUS * MODULUS }
+    ensures below { (j : ℕ) → j < 4 → slice_index result j < MODULUS * MODULUS }
 {
     wide_products(spread(residue), widened(row))
 }

@@ -7,6 +7,7 @@ ghost use Rattle.mlu_ring.specs.Matrices.{dimension, transposed};
 ghost use Rattle.mlu_point.specs.Powers.{powers_below};
 ghost use Rattle.mlu_ring.specs.Successor.{next};
 ghost use Rattle.mlu_point.specs.Factors.{eq_factor, power_factor};
+ghost use Rattle.mlu_point.specs.declared.point.rule.Successor.TheVariants.{Wrap};
 ghost use Rattle.mlu_point.specs.Rules.{next_by};
 ghost use Rattle.mlu_point.specs.Steps.{carry_of, done_of, last_of};
 
@@ -91,6 +92,7 @@ impl<F: Field> Point<F> {
         ensures done { result.1 ≡ done_of F.ring point.now row.now }
         ensures last { result.2 ≡ last_of F.ring point.now row.now }
         ensures whole { F.ring.sum result.1 result.2 ≡ value F.ring (next F.ring (weights F.ring point.now)) row.now }
+        ensures around { F.ring.sum result.1 result.0 ≡ value F.ring (next_by Wrap F.ring (weights F.ring point.now)) row.now }
     {
         let mut carry = F::ONE;
         let mut done = F::ZERO;

@@ -8,7 +8,7 @@ use crate::sizes::has_variables;
 use crate::words::Words;
 use mlu_replay_lines::fault::{Fault, Reason};
 use mlu_ring::{ExtensionField, Field, RowMajorMatrix};
-use multilinear_util::eq_batch::{eval_eq_base_batch, eval_eq_batch};
+use multilinear_util::eq_batch::{eval_eq_base_batch, eval_eq_batch, eval_eq_batch_in_chunks};
 use multilinear_util::point::Point;
 
 /// `transpose`: whether the last coordinate comes first, and points.
@@ -38,6 +38,28 @@ pub fn eq_batch<F: Field, EF: ExtensionField<F> + Element>(
         eval_eq_batch::<F, EF, true>(alloc, view, &mut out, &scalars)?;
     } else {
         eval_eq_batch::<F, EF, false>(alloc, view, &mut out, &scalars)?;
+    }
+    list_word(alloc, &out)
+}
+
+/// `eq_batch_in_chunks`: the logarithm of the number of chunks, and then as [`eq_batch`].
+pub fn eq_batch_in_chunks<F: Field, EF: ExtensionField<F> + Element>(
+    words: &mut Words<'_>,
+) -> Result<String, Fault> {
+    let log_chunks = words.number()?;
+    let is_initialized = words.flag()?;
+    let columns = columns::<EF>(words)?;
+    let scalars = words.list::<EF>()?;
+    let mut out = words.list::<EF>()?;
+    test_sizes(&columns, scalars.len(), out.len())?;
+    if log_chunks > columns.height() {
+        return Err(Fault::Unknown(Reason::Size));
+    }
+    let (alloc, view) = (words.alloc(), columns.as_view());
+    if is_initialized {
+        eval_eq_batch_in_chunks::<F, EF, true>(alloc, view, &mut out, &scalars, log_chunks)?;
+    } else {
+        eval_eq_batch_in_chunks::<F, EF, false>(alloc, view, &mut out, &scalars, log_chunks)?;
     }
     list_word(alloc, &out)
 }

@@ -16,11 +16,7 @@ pub fn answer<F: Field + Element, EF: ExtensionField<F> + SelfAlgebra + Element>
     let alloc = words.alloc();
     match op {
         "eval_eq" => {
-            let p = words.list::<F>()?;
-            let q = words.list::<EF>()?;
-            if p.len() != q.len() {
-                return Err(Fault::Unknown(Reason::Size));
-            }
+            let (p, q) = words.two_lists::<F, EF>()?;
             word(alloc, Point::eval_eq(&p, &q))
         }
         "eval_select" => {

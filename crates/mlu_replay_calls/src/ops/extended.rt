@@ -39,6 +39,7 @@ pub fn answer<
         "new_packed_from_point" => new_packed_from_point::<F, EF>(words),
         "fix_prefix_var_mut.base" => one_ring::fix_prefix_var_mut::<F, EF>(words),
         "eq_batch" => batches::eq_batch::<F, EF>(words),
+        "eq_batch_in_chunks" => batches::eq_batch_in_chunks::<F, EF>(words),
         "split.to_field" => to_field::<F, EF>(words),
         _ => of_split::<F, EF>(op, words),
     }

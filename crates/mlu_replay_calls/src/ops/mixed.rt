@@ -87,6 +87,9 @@ fn of_split<F: Field + Element, EF: ExtensionField<F> + SelfAlgebra + Element>(
             let (table, split) = words.table_and_smaller_split::<F, EF>()?;
             table_word(alloc, compressed_by_split(alloc, op, &table, &split))
         }
+        "split.compress_prefix_split" | "split.compress_prefix_shifted_split" => {
+            compressed_in_parts::<F, EF>(op, words)
+        }
         "split.compress_prefix_to_packed" => split_compress_prefix_to_packed::<F, EF>(words),
         "split.compress_suffix_into" => split_compress_suffix_into::<F, EF>(words),
         _ => either::answer::<F, EF>(op, words),
@@ -125,6 +128,25 @@ fn compressed_by_split<F: Field, EF: ExtensionField<F>>(
         "split.compress_prefix_shifted" => split.compress_prefix_shifted(alloc, view),
         _ => split.compress_suffix_shifted(alloc, view),
     }
+}
+
+/// `split.compress_prefix_split`, `split.compress_prefix_shifted_split`: the number of parts, the storage,
+/// a table, a point and a scale.
+fn compressed_in_parts<F: Field + Element, EF: ExtensionField<F> + Element>(
+    op: &str,
+    words: &mut Words<'_>,
+) -> Result<String, Fault> {
+    let alloc = words.alloc();
+    let parts = words.number()?;
+    if parts == 0 {
+        return Err(Fault::Unknown(Reason::Size));
+    }
+    let (table, split) = words.table_and_smaller_split::<F, EF>()?;
+    let compressed = match op {
+        "split.compress_prefix_split" => split.compress_prefix_split(alloc, table.as_view(), parts),
+        _ => split.compress_prefix_shifted_split(alloc, table.as_view(), parts),
+    };
+    table_word(alloc, compressed)
 }
 
 /// `fix_prefix_var_to_packed`: a table and an element.

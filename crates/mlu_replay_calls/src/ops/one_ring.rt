@@ -8,7 +8,7 @@ use crate::words::Words;
 use mlu_replay_lines::fault::{Fault, Reason};
 use mlu_ring::{Algebra, Field, PrimeCharacteristicRing, SelfAlgebra};
 use multilinear_util::point::Point;
-use multilinear_util::point::Successor::Wrap;
+use multilinear_util::point::Successor::{self, RepeatLast, Wrap};
 use multilinear_util::poly::Poly;
 
 /// The most coordinates of a point that is made of a number.
@@ -40,6 +40,8 @@ pub fn answer<F: Field + SelfAlgebra + Element>(
         "hypercube" => hypercube::<F>(words),
         "expand_from_univariate" => expand_from_univariate::<F>(words),
         "eval_next" => eval_next::<F>(words),
+        "eval_next_by" => eval_next_by::<F>(RepeatLast, words),
+        "eval_next_by.wrap" => eval_next_by::<F>(Wrap, words),
         "transpose" => batches::transpose::<F>(words),
         _ => of_table::<F>(op, words),
     }
@@ -162,15 +164,20 @@ fn expand_from_univariate<F: Field + Element>(words: &mut Words<'_>) -> Result<S
 
 /// `eval_next`: two points. Answers carry, done and last.
 fn eval_next<F: Field + Element>(words: &mut Words<'_>) -> Result<String, Fault> {
-    let point = words.list::<F>()?;
-    let row = words.list::<F>()?;
-    if point.len() != row.len() {
-        return Err(Fault::Unknown(Reason::Size));
-    }
+    let (point, row) = words.two_lists::<F, F>()?;
     let (carry, done, last) = Point::eval_next(&point, &row);
     let mut steps = Vec::with_capacity(words.alloc(), 3)?;
     for step in [carry, done, last] {
         steps.push(step).map_err(|_| Fault::Memory)?;
     }
     list_word(words.alloc(), &steps)
+}
+
+/// `eval_next_by`: two points.
+fn eval_next_by<F: Field + Element>(
+    rule: Successor,
+    words: &mut Words<'_>,
+) -> Result<String, Fault> {
+    let (point, row) = words.two_lists::<F, F>()?;
+    word(words.alloc(), Point::eval_next_by(rule, &point, &row))
 }

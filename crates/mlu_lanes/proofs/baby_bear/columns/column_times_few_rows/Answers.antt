@@ -77,7 +77,7 @@ loop-i-preserved g c =
     (omega arith) c.loop-i.invariant
     (λ j b. c.wide_sums-lows-in-loop-i.ensures j b ∙ ap (λ n. slice_index c.loop-i.lows j + n) (c.lower_halves-in-loop-i.ensures j b))
     (λ j b. c.wide_sums-highs-in-loop-i.ensures j b ∙ ap (λ n. slice_index c.loop-i.highs j + n) (c.shifted_right-in-loop-i.ensures j b))
-    (λ j b. omega (arith, c.row_scaled-products.ensures.least j b))
+    (λ j b. omega (arith, c.row_scaled-products.ensures.below j b))
     (λ j b. ap reduced (c.row_scaled-products.ensures.value j b ∙ ap (λ n. canonical y * n) (c.row-in-loop-i.ensures.value j b)))
     (λ j b.
     pair-take_more ring (baby_bear_laws g.row.W) left (right j) i y (p j) within (omega (arith, within, long_l, c.requires.long, length-map c.args.r.now (λ e. slice_index_or (list e) j (reduced 0))))

@@ -1,5 +1,5 @@
 use Rattle.std.proofs.Common.{◌∙◌, ap}
-use Rattle.mlu_point.specs.declared.point.rule.Successor.TheVariants.{RepeatLast}
+use Rattle.mlu_point.specs.declared.point.rule.Successor.TheVariants.{RepeatLast, Wrap}
 use Rattle.mlu_point.specs.Steps.{carry_of, done_of, last_of}
 use Rattle.mlu_point.proofs.Steps.{carry_of-none, done_of-none, last_of-none, carry_of-more, done_of-more, last_of-more, tails-all, steps-value}
 use Rattle.mlu_point.proofs.point.owned.Point.eval_next.Goals as goal
@@ -51,11 +51,13 @@ returns g c =
     let r = c.args.row.now in
     let all = c.loop-k-test.false in
     let before = c.loop-k.invariant in
+    let carry = before.carry ∙ tails-all ring laws (carry_of ring) p r c.loop-k.k all c.requires in
     let done = before.done ∙ tails-all ring laws (done_of ring) p r c.loop-k.k all c.requires in
     let last = before.last ∙ tails-all ring laws (last_of ring) p r c.loop-k.k all c.requires in
     record {
-      carry = before.carry ∙ tails-all ring laws (carry_of ring) p r c.loop-k.k all c.requires;
+      carry = carry;
       done = done;
       last = last;
       whole = steps-value ring laws RepeatLast p r c.loop-k.done c.loop-k.last c.requires done last;
+      around = steps-value ring laws Wrap p r c.loop-k.done c.loop-k.carry c.requires done carry;
     }
