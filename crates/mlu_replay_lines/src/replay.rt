@@ -40,7 +40,7 @@ impl Tally {
     }
 }
 
-/// What answers the cases.
+/// What answers the cases: what is asked may have several answers.
 pub trait Answers {
     ghost gives: { List ℕ → List ℕ → Type 0 };
 
@@ -71,7 +71,8 @@ pub fn replay_streams<A: Answers, R: Read + Drop, W: Write + Drop>(
 }
 
 /// Answers each line of the input, writes a line for each that differs or is unknown, and then the
-/// count. Where the bytes of the input are known, as many lines are compared or unknown as it has.
+/// count. Where the bytes of the input are known, as many lines are compared or unknown as it has, and
+/// where none differs or is unknown, each is a case that gives one of the answers.
 ///
 /// # Errors
 /// Where the input cannot be read, or has 2^64 - 1 lines or more; where a write fails, or memory is refused.
