@@ -12,14 +12,13 @@ pub trait Calls {
     fn answer(&mut self, alloc: Global, call: u32) -> Result<Self::Entry, AllocError>;
 }
 
-/// The sum of the answers of so many calls with this number, where they could be made.
+/// The sum of the answers of so many calls with this number.
 pub fn sum_of_calls<C: Calls + Drop>(
     alloc: Global,
-    calls: Result<C, AllocError>,
+    mut calls: C,
     call: u32,
     rounds: usize,
 ) -> Result<C::Entry, AllocError> {
-    let mut calls = calls?;
     let mut sum = C::Entry::ZERO;
     for _ in 0..rounds {
         sum = sum + calls.answer(alloc, call)?;

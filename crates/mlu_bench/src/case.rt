@@ -1,25 +1,53 @@
 //! What calls are made on, tests of their sizes, and entries of what they give.
 ghost use Rattle.std.specs.Prelude.{◌≡◌, ◌-◌, ◌*◌, ◌/◌, ◌^◌, ◌<◌, ◌≤◌, length, IsTrue};
 
+use crate::words::Words;
 use mlu_ring::{Additive, ExtensionField, Field, PackedFieldExtension};
 use multilinear_util::point::Point;
 use multilinear_util::poly::Poly;
-use std::alloc::AllocError;
+use std::alloc::{AllocError, Global};
 
-/// A table and a point over the base field, a table and a point over the extension, with as many
-/// variables each, and a scale; and for batches the coordinates of several points, in columns, with a
-/// scalar for each point.
+/// What calls over one ring are made on: a table, a point with as many variables and a scale, and for
+/// batches the coordinates of several points, in columns.
+#[derive(Drop)]
+pub struct Operands<R> {
+    pub table: Poly<R>,
+    pub point: Point<R>,
+    pub columns: Vec<R>,
+    pub scale: R,
+}
+
+impl<R: Words> Operands<R> {
+    /// The operands that the words stand for; an error where the entries are no table.
+    pub fn read(
+        alloc: Global,
+        entries: &[u32],
+        point: &[u32],
+        columns: &[u32],
+        scale: R,
+    ) -> Result<Self, AllocError> {
+        let entries = R::read(alloc, entries)?;
+        let point = R::read(alloc, point)?;
+        let columns = R::read(alloc, columns)?;
+        if !entries.len().is_power_of_two() {
+            return Err(AllocError);
+        }
+        Ok(Operands {
+            table: Poly::new(entries),
+            point: Point::new(point),
+            columns,
+            scale,
+        })
+    }
+}
+
+/// Operands over the base field and over the extension, with as many variables, and for batches a scalar
+/// for each point.
 #[derive(Drop)]
 pub struct Case<F, EF> {
-    pub base: Poly<F>,
-    pub ext: Poly<EF>,
-    pub base_point: Point<F>,
-    pub point: Point<EF>,
-    pub base_columns: Vec<F>,
-    pub columns: Vec<EF>,
+    pub base: Operands<F>,
+    pub ext: Operands<EF>,
     pub scalars: Vec<EF>,
-    pub base_scale: F,
-    pub scale: EF,
 }
 
 /// The first of the values.

@@ -1,6 +1,6 @@
 //! Compressions of a table over the base at half of a point.
 
-use crate::calls::Calls;
+use crate::calls::{Calls, sum_of_calls};
 use crate::case::{Case, first_lane_of, first_of, is_within, is_within_lanes};
 use crate::splits::split_table;
 use mlu_ring::{ExtensionField, Field, PackedValue};
@@ -12,25 +12,30 @@ use std::alloc::{AllocError, Global};
 /// The first variables at the first half of the coordinates (0), packed (1), or by a split table moved
 /// up by one row (3); the last ones at the others (2), or so moved (4).
 #[derive(Drop)]
-pub struct CompressionCalls<'a, F: Field, EF: ExtensionField<F>> {
+struct CompressionCalls<'a, F: Field, EF: ExtensionField<F>> {
     table: &'a Poly<F>,
     scale: EF,
-    part: Point<EF>,
-    split: SplitEq<F, EF>,
+    part: &'a Point<EF>,
+    split: &'a SplitEq<F, EF>,
 }
 
-impl<'a, F: Field, EF: ExtensionField<F>> CompressionCalls<'a, F, EF> {
-    /// The calls with this number, over a split table that is made once.
-    pub fn new(alloc: Global, case: &'a Case<F, EF>, call: u32) -> Result<Self, AllocError> {
-        let part = half_of(alloc, &case.point, call == 2 || call == 4)?;
-        let split = split_table(alloc, &part, case.scale, true)?;
-        Ok(CompressionCalls {
-            table: &case.base,
-            scale: case.scale,
-            part,
-            split,
-        })
-    }
+/// The sum of so many calls with this number, over a split table that is made once.
+pub fn sum_of_compressions<F: Field, EF: ExtensionField<F>>(
+    alloc: Global,
+    case: &Case<F, EF>,
+    call: u32,
+    rounds: usize,
+) -> Result<EF, AllocError> {
+    let (table, scale) = (&case.base.table, case.ext.scale);
+    let part = &half_of(alloc, &case.ext.point, call == 2 || call == 4)?;
+    let split = &split_table(alloc, part, scale, true)?;
+    let calls = CompressionCalls {
+        table,
+        scale,
+        part,
+        split,
+    };
+    sum_of_calls(alloc, calls, call, rounds)
 }
 
 /// The second or the first half of the coordinates.
@@ -92,9 +97,9 @@ impl<F: Field, EF: ExtensionField<F>> Calls for CompressionCalls<'_, F, EF> {
 
     fn answer(&mut self, alloc: Global, call: u32) -> Result<EF, AllocError> {
         match call {
-            0 | 2 => first_of(at_point(alloc, self.table, &self.part, self.scale, call)),
-            1 => first_lane_of::<F, EF>(packed_at_point(alloc, self.table, &self.part, self.scale)),
-            _ => first_of(shifted(alloc, self.table.as_view(), &self.split, call)),
+            0 | 2 => first_of(at_point(alloc, self.table, self.part, self.scale, call)),
+            1 => first_lane_of::<F, EF>(packed_at_point(alloc, self.table, self.part, self.scale)),
+            _ => first_of(shifted(alloc, self.table.as_view(), self.split, call)),
         }
     }
 }

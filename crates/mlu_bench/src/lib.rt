@@ -7,6 +7,8 @@
 //! stand on is proved anew at each such name.
 #![tactic(auto)]
 
+ghost use Rattle.std.specs.Prelude.{◌≡◌, length};
+
 mod batches;
 mod calls;
 mod case;
@@ -20,15 +22,15 @@ mod sequences;
 mod splits;
 mod tables;
 mod values;
+mod words;
 
-use crate::case::Case;
+use crate::case::{Case, Operands};
 use crate::kinds::sum_of_kind;
+use crate::words::Words;
 use mlu_ext::QuarticExtension;
 use mlu_lanes::{BabyBear, Lanes};
 use mlu_ring::place_by_place::{multiply_each, sub_each};
 use mlu_ring::{PackedValue, PrimeCharacteristicRing};
-use multilinear_util::point::Point;
-use multilinear_util::poly::Poly;
 use std::alloc::{AllocError, Global};
 
 /// The width of the lanes.
@@ -39,6 +41,71 @@ type Element = BabyBear<8>;
 type Packing = Lanes<Element, 8>;
 
 type Extension = QuarticExtension<Element>;
+
+/// A word each.
+impl Words for Element {
+    fn read(alloc: Global, words: &[u32]) -> Result<Vec<Self>, AllocError> {
+        let mut elements = Vec::with_capacity(alloc, words.len())?;
+        for word in words.iter() {
+            elements.push(BabyBear::from_u32(*word))?;
+        }
+        Ok(elements)
+    }
+}
+
+/// A word for each lane.
+impl Words for Packing {
+    fn read(alloc: Global, words: &[u32]) -> Result<Vec<Self>, AllocError> {
+        let elements = Element::read(alloc, words)?;
+        packings(alloc, elements.as_slice())
+    }
+}
+
+/// The elements side by side, those after the last whole packing left out.
+fn packings(alloc: Global, elements: &[Element]) -> Result<Vec<Packing>, AllocError> {
+    let mut packings = Vec::new(alloc);
+    for i in 0..elements.len() / WIDTH {
+        packings.push(Packing::load(&elements[i * WIDTH..i * WIDTH + WIDTH]))?;
+    }
+    Ok(packings)
+}
+
+/// A word for each of the four coefficients.
+impl Words for Extension {
+    fn read(alloc: Global, words: &[u32]) -> Result<Vec<Self>, AllocError> {
+        let mut elements = Vec::new(alloc);
+        for i in 0..words.len() / 4 {
+            elements.push(extension(&words[i * 4..i * 4 + 4]))?;
+        }
+        Ok(elements)
+    }
+}
+
+/// The element with these four coefficients.
+fn extension(words: &[u32]) -> Extension
+    requires { length words.now ≡ 4 }
+{
+    QuarticExtension {
+        c0: BabyBear::from_u32(words[0]),
+        c1: BabyBear::from_u32(words[1]),
+        c2: BabyBear::from_u32(words[2]),
+        c3: BabyBear::from_u32(words[3]),
+    }
+}
+
+/// Writes the words of the elements, as far as there is room.
+fn write_elements(out: &mut [u32], elements: &[Element]) {
+    for i in 0..out.len().min(elements.len()) {
+        out[i] = elements[i].as_canonical_u32();
+    }
+}
+
+/// Writes the word of the first lane of each, as far as there is room.
+fn write_first_lanes(out: &mut [u32], packings: &[Packing]) {
+    for i in 0..out.len().min(packings.len()) {
+        out[i] = packings[i].lane(0).as_canonical_u32();
+    }
+}
 
 /// Adds (0), takes away (1) or multiplies by (other numbers) `b`, so many times.
 fn repeat<R: PrimeCharacteristicRing>(out: &mut [R], b: &[R], operation: u32, rounds: usize) {
@@ -54,63 +121,18 @@ fn repeat<R: PrimeCharacteristicRing>(out: &mut [R], b: &[R], operation: u32, ro
     }
 }
 
-fn elements(alloc: Global, words: &[u32]) -> Result<Vec<Element>, AllocError> {
-    words
-        .iter()
-        .map(|word| BabyBear::from_u32(*word))
-        .collect(alloc)
-}
-
-fn packings(alloc: Global, elements: &[Element]) -> Result<Vec<Packing>, AllocError> {
-    let mut packings = Vec::new(alloc);
-    for i in 0..elements.len() / WIDTH {
-        packings.push(Packing::load(&elements[i * WIDTH..i * WIDTH + WIDTH]))?;
-    }
-    Ok(packings)
-}
-
-fn extensions(alloc: Global, words: &[u32]) -> Result<Vec<Extension>, AllocError> {
-    let mut extensions = Vec::new(alloc);
-    for i in 0..words.len() / 4 {
-        let at = &words[i * 4..i * 4 + 4];
-        let [c0, c1, c2, c3] = [at[0], at[1], at[2], at[3]].map(BabyBear::from_u32);
-        extensions.push(QuarticExtension::new(c0, c1, c2, c3))?;
-    }
-    Ok(extensions)
-}
-
-fn repeat_scalar(
+/// What the first words stand for, after so many operations with what the others stand for.
+fn repeated<R: PrimeCharacteristicRing + Words>(
     alloc: Global,
-    out: &mut [u32],
+    words: &[u32],
     b: &[u32],
     operation: u32,
     rounds: usize,
-) -> Result<(), AllocError> {
-    let mut left = elements(alloc, out)?;
-    let right = elements(alloc, b)?;
-    repeat(left.as_mut_slice(), right.as_slice(), operation, rounds);
-    for (word, element) in out.iter_mut().zip(left.iter()) {
-        *word = element.as_canonical_u32();
-    }
-    Ok(())
-}
-
-fn repeat_lanes(
-    alloc: Global,
-    out: &mut [u32],
-    b: &[u32],
-    operation: u32,
-    rounds: usize,
-) -> Result<(), AllocError> {
-    let left = elements(alloc, out)?;
-    let right = elements(alloc, b)?;
-    let mut left = packings(alloc, left.as_slice())?;
-    let right = packings(alloc, right.as_slice())?;
-    repeat(left.as_mut_slice(), right.as_slice(), operation, rounds);
-    for (word, packing) in out.iter_mut().zip(left.iter()) {
-        *word = packing.lane(0).as_canonical_u32();
-    }
-    Ok(())
+) -> Result<Vec<R>, AllocError> {
+    let mut out = R::read(alloc, words)?;
+    let b = R::read(alloc, b)?;
+    repeat(out.as_mut_slice(), b.as_slice(), operation, rounds);
+    Ok(out)
 }
 
 /// Repeats the operation on elements. Gives false where memory is refused.
@@ -122,7 +144,11 @@ pub extern "C" fn mlu_bench_scalar(
     operation: u32,
     rounds: usize,
 ) -> bool {
-    repeat_scalar(alloc, out, b, operation, rounds).is_ok()
+    let Ok(elements) = repeated::<Element>(alloc, out, b, operation, rounds) else {
+        return false;
+    };
+    write_elements(out, elements.as_slice());
+    true
 }
 
 /// Repeats the operation on packed elements. Gives false where memory is refused.
@@ -134,7 +160,11 @@ pub extern "C" fn mlu_bench_lanes(
     operation: u32,
     rounds: usize,
 ) -> bool {
-    repeat_lanes(alloc, out, b, operation, rounds).is_ok()
+    let Ok(packings) = repeated::<Packing>(alloc, out, b, operation, rounds) else {
+        return false;
+    };
+    write_first_lanes(out, packings.as_slice());
+    true
 }
 
 /// The tables and the points that the words stand for: four words a coefficient of the extension, and
@@ -146,27 +176,16 @@ fn case_of(
     columns: &[u32],
     scalars: &[u32],
 ) -> Result<Case<Element, Extension>, AllocError> {
-    let base = elements(alloc, &entries[..entries.len() / 4])?;
-    let ext = extensions(alloc, entries)?;
-    let scalars = extensions(alloc, scalars)?;
+    let scalars = Extension::read(alloc, scalars)?;
     let Some(scale) = scalars.first() else {
         return Err(AllocError);
     };
-    if !base.len().is_power_of_two() || !ext.len().is_power_of_two() {
-        return Err(AllocError);
-    }
     let scale = *scale;
-    Ok(Case {
-        base: Poly::new(base),
-        ext: Poly::new(ext),
-        base_point: Point::new(elements(alloc, &point[..point.len() / 4])?),
-        point: Point::new(extensions(alloc, point)?),
-        base_columns: elements(alloc, &columns[..columns.len() / 4])?,
-        columns: extensions(alloc, columns)?,
-        scalars,
-        base_scale: scale.c0,
-        scale,
-    })
+    let ext = Operands::read(alloc, entries, point, columns, scale)?;
+    let (entries, point) = (&entries[..entries.len() / 4], &point[..point.len() / 4]);
+    let columns = &columns[..columns.len() / 4];
+    let base = Operands::read(alloc, entries, point, columns, scale.c0)?;
+    Ok(Case { base, ext, scalars })
 }
 
 /// Writes the coefficients, and says whether there were any.
@@ -174,10 +193,7 @@ fn write(out: &mut [u32], answer: Result<Extension, AllocError>) -> bool {
     let Ok(sum) = answer else {
         return false;
     };
-    let coefficients = [sum.c0, sum.c1, sum.c2, sum.c3];
-    for (word, coefficient) in out.iter_mut().zip(coefficients.iter()) {
-        *word = coefficient.as_canonical_u32();
-    }
+    write_elements(out, &[sum.c0, sum.c1, sum.c2, sum.c3]);
     true
 }
 

@@ -69,11 +69,11 @@ impl<F: Field, EF: ExtensionField<F>> Calls for PackedCalls<'_, F, EF> {
     fn answer(&mut self, alloc: Global, call: u32) -> Result<EF, AllocError> {
         let (case, packed) = (self.case, self.packed);
         let table = match call {
-            0 => packed_table::<F, EF>(alloc, &case.ext),
+            0 => packed_table::<F, EF>(alloc, &case.ext.table),
             1 => return first_of(packed.unpack::<F, EF>(alloc)),
-            2 => return value::<F, EF>(alloc, packed, &case.point),
-            3 => packed_weights::<F, EF>(alloc, case.point.as_slice(), case.scale),
-            _ => packed_fold::<F, EF>(alloc, &case.base, case.scale),
+            2 => return value::<F, EF>(alloc, packed, &case.ext.point),
+            3 => packed_weights::<F, EF>(alloc, case.ext.point.as_slice(), case.ext.scale),
+            _ => packed_fold::<F, EF>(alloc, &case.base.table, case.ext.scale),
         };
         first_lane_of::<F, EF>(table)
     }

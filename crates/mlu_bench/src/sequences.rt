@@ -46,12 +46,12 @@ impl<F: Field, EF: ExtensionField<F> + Algebra<EF>> Calls for SequenceCalls<'_, 
     type Entry = EF;
 
     fn answer(&mut self, alloc: Global, call: u32) -> Result<EF, AllocError> {
-        let Some((r, others)) = self.case.point.as_slice().split_first() else {
+        let Some((r, others)) = self.case.ext.point.as_slice().split_first() else {
             return Err(AllocError);
         };
         match call {
-            0 => to_elements(alloc, &self.case.base, *r, others),
-            _ => to_packed(alloc, &self.case.base, *r, others),
+            0 => to_elements(alloc, &self.case.base.table, *r, others),
+            _ => to_packed(alloc, &self.case.base.table, *r, others),
         }
     }
 }

@@ -1,6 +1,6 @@
 //! A split table written out, and added to a table.
 
-use crate::calls::Calls;
+use crate::calls::{Calls, sum_of_calls};
 use crate::case::{Case, are_lanes, first, first_lane, first_of, is_small, is_table};
 use mlu_ring::{ExtensionField, Field, PackedValue, PrimeCharacteristicRing};
 use multilinear_util::point::Point;
@@ -28,18 +28,21 @@ pub fn split_table<F: Field, EF: ExtensionField<F>>(
 
 /// The split table of the point added to a table (0), and written out (1).
 #[derive(Drop)]
-pub struct SplitCalls<F: Field, EF: ExtensionField<F>> {
-    split: SplitEq<F, EF>,
+struct SplitCalls<'a, F: Field, EF: ExtensionField<F>> {
+    split: &'a SplitEq<F, EF>,
     out: Vec<EF>,
 }
 
-impl<F: Field, EF: ExtensionField<F>> SplitCalls<F, EF> {
-    /// The calls, over a split table and a table of zeros that are made once.
-    pub fn new(alloc: Global, case: &Case<F, EF>) -> Result<Self, AllocError> {
-        let split = split_table(alloc, &case.point, case.scale, true)?;
-        let out = EF::zero_vec(alloc, case.ext.num_evals())?;
-        Ok(SplitCalls { split, out })
-    }
+/// The sum of so many calls with this number, over a split table and a table of zeros that are made once.
+fn sum_of_scalars<F: Field, EF: ExtensionField<F>>(
+    alloc: Global,
+    case: &Case<F, EF>,
+    call: u32,
+    rounds: usize,
+) -> Result<EF, AllocError> {
+    let out = EF::zero_vec(alloc, case.ext.table.num_evals())?;
+    let split = &split_table(alloc, &case.ext.point, case.ext.scale, true)?;
+    sum_of_calls(alloc, SplitCalls { split, out }, call, rounds)
 }
 
 /// Adds the split table to a table of as many entries.
@@ -66,34 +69,36 @@ fn written<F: Field, EF: ExtensionField<F>>(
     split.materialize(alloc)
 }
 
-impl<F: Field, EF: ExtensionField<F>> Calls for SplitCalls<F, EF> {
+impl<F: Field, EF: ExtensionField<F>> Calls for SplitCalls<'_, F, EF> {
     type Entry = EF;
 
     fn answer(&mut self, alloc: Global, call: u32) -> Result<EF, AllocError> {
         if call == 1 {
-            return first_of(written(alloc, &self.split, self.out.len()));
+            return first_of(written(alloc, self.split, self.out.len()));
         }
-        add(&self.split, self.out.as_mut_slice())?;
+        add(self.split, self.out.as_mut_slice())?;
         Ok(first(self.out.as_slice()))
     }
 }
 
 /// The split table of the point added to a packed table.
 #[derive(Drop)]
-pub struct PackedSplitCalls<F: Field, EF: ExtensionField<F>> {
-    split: SplitEq<F, EF>,
+struct PackedSplitCalls<'a, F: Field, EF: ExtensionField<F>> {
+    split: &'a SplitEq<F, EF>,
     out: Vec<EF::ExtensionPacking>,
 }
 
-impl<F: Field, EF: ExtensionField<F>> PackedSplitCalls<F, EF> {
-    /// The calls, over a split table and a table of zeros that are made once.
-    pub fn new(alloc: Global, case: &Case<F, EF>) -> Result<Self, AllocError> {
-        let width = <F::Packing as PackedValue>::WIDTH;
-        let groups = case.ext.num_evals().checked_div(width).unwrap_or(0);
-        let split = split_table(alloc, &case.point, case.scale, true)?;
-        let out = EF::ExtensionPacking::zero_vec(alloc, groups)?;
-        Ok(PackedSplitCalls { split, out })
-    }
+/// The sum of so many calls, over a split table and a table of zeros that are made once.
+fn sum_of_lanes<F: Field, EF: ExtensionField<F>>(
+    alloc: Global,
+    case: &Case<F, EF>,
+    rounds: usize,
+) -> Result<EF, AllocError> {
+    let width = <F::Packing as PackedValue>::WIDTH;
+    let groups = case.ext.table.num_evals().checked_div(width).unwrap_or(0);
+    let out = EF::ExtensionPacking::zero_vec(alloc, groups)?;
+    let split = &split_table(alloc, &case.ext.point, case.ext.scale, true)?;
+    sum_of_calls(alloc, PackedSplitCalls { split, out }, 0, rounds)
 }
 
 /// Adds the split table to a packed table with as many lanes as it has entries.
@@ -109,11 +114,25 @@ fn add_to_packed<F: Field, EF: ExtensionField<F>>(
     split.accumulate_into_packed(alloc, out, None)
 }
 
-impl<F: Field, EF: ExtensionField<F>> Calls for PackedSplitCalls<F, EF> {
+impl<F: Field, EF: ExtensionField<F>> Calls for PackedSplitCalls<'_, F, EF> {
     type Entry = EF;
 
     fn answer(&mut self, alloc: Global, _: u32) -> Result<EF, AllocError> {
-        add_to_packed(alloc, &self.split, self.out.as_mut_slice())?;
+        add_to_packed(alloc, self.split, self.out.as_mut_slice())?;
         Ok(first_lane::<F, EF>(self.out.as_slice()))
     }
+}
+
+/// The sum of so many calls with this number: the split table added to a table (0), written out (1), and added
+/// to a packed table (2).
+pub fn sum_of_splits<F: Field, EF: ExtensionField<F>>(
+    alloc: Global,
+    case: &Case<F, EF>,
+    call: u32,
+    rounds: usize,
+) -> Result<EF, AllocError> {
+    if call == 2 {
+        return sum_of_lanes(alloc, case, rounds);
+    }
+    sum_of_scalars(alloc, case, call, rounds)
 }

@@ -1,6 +1,6 @@
 //! Values of a table at a point.
 
-use crate::calls::Calls;
+use crate::calls::{Calls, sum_of_calls};
 use crate::case::{Case, is_table};
 use crate::splits::split_table;
 use mlu_ring::{ExtensionField, Field, PrimeCharacteristicRing};
@@ -14,17 +14,20 @@ use std::alloc::{AllocError, Global};
 /// over the extension (5). The first entry of both tables grows by one with each call: some of the calls
 /// neither write nor take memory, and on the same table one of them might be made for all.
 #[derive(Drop)]
-pub struct ValueCalls<F: Field, EF: ExtensionField<F>> {
+struct ValueCalls<'a, F: Field, EF: ExtensionField<F>> {
     case: Case<F, EF>,
-    split: SplitEq<F, EF>,
+    split: &'a SplitEq<F, EF>,
 }
 
-impl<F: Field, EF: ExtensionField<F>> ValueCalls<F, EF> {
-    /// The calls with this number, over a split table that is made once.
-    pub fn new(alloc: Global, case: Case<F, EF>, call: u32) -> Result<Self, AllocError> {
-        let split = split_table(alloc, &case.point, EF::ONE, call != 3)?;
-        Ok(ValueCalls { case, split })
-    }
+/// The sum of so many calls with this number, over a split table that is made once.
+pub fn sum_of_values<F: ExtensionField<F>, EF: ExtensionField<F>>(
+    alloc: Global,
+    case: Case<F, EF>,
+    call: u32,
+    rounds: usize,
+) -> Result<EF, AllocError> {
+    let split = &split_table(alloc, &case.ext.point, EF::ONE, call != 3)?;
+    sum_of_calls(alloc, ValueCalls { case, split }, call, rounds)
 }
 
 /// The value of the table at the point, or with each weight moved to the next row (4).
@@ -73,19 +76,29 @@ fn grow<R: PrimeCharacteristicRing>(values: &mut [R]) {
     }
 }
 
-impl<F: ExtensionField<F>, EF: ExtensionField<F>> Calls for ValueCalls<F, EF> {
+/// The value that the call with this number gives.
+fn value<F: ExtensionField<F>, EF: ExtensionField<F>>(
+    alloc: Global,
+    case: &Case<F, EF>,
+    split: &SplitEq<F, EF>,
+    call: u32,
+) -> Result<EF, AllocError> {
+    let (base, ext) = (&case.base, &case.ext);
+    match call {
+        0 => Ok(EF::from_base(at_point(alloc, &base.table, &base.point, call)?)),
+        1 | 4 => at_point(alloc, &base.table, &ext.point, call),
+        2 | 3 => by_split(&base.table, split),
+        _ => of_extension::<F, EF>(alloc, &ext.table, &ext.point),
+    }
+}
+
+impl<F: ExtensionField<F>, EF: ExtensionField<F>> Calls for ValueCalls<'_, F, EF> {
     type Entry = EF;
 
     fn answer(&mut self, alloc: Global, call: u32) -> Result<EF, AllocError> {
-        let case = &self.case;
-        let answer = match call {
-            0 => Ok(EF::from_base(at_point(alloc, &case.base, &case.base_point, call)?)),
-            1 | 4 => at_point(alloc, &case.base, &case.point, call),
-            2 | 3 => by_split(&case.base, &self.split),
-            _ => of_extension::<F, EF>(alloc, &case.ext, &case.point),
-        }?;
-        grow(self.case.base.as_mut_slice());
-        grow(self.case.ext.as_mut_slice());
-        Ok(answer)
+        let answer = value(alloc, &self.case, self.split, call);
+        grow(self.case.base.table.as_mut_slice());
+        grow(self.case.ext.table.as_mut_slice());
+        answer
     }
 }

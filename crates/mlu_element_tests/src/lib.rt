@@ -16,4 +16,6 @@ mod points;
 #[cfg(test)]
 mod rings;
 #[cfg(test)]
+mod texts;
+#[cfg(test)]
 mod without_rings;

@@ -1,16 +1,24 @@
 //! The examples of the README and of docs/layers.
+ghost use Rattle.std.specs.Prelude.{◌*◌, ◌<◌, ◌^◌};
+ghost use Rattle.std.specs.Mem.{type_size};
+
+use crate::rings::Row::BatchInChunks;
+use crate::rings::residues;
 use mlu_eq::{eval_base, fold_prefix_in_place};
 use mlu_ext::QuarticExtension;
 use mlu_lanes::{BabyBear, Lanes};
 use mlu_ring::{
-    Additive, Counter, Field, PackedValue, PrimeCharacteristicRing, RowMajorMatrixView,
+    Additive, Counter, ExtensionField, Field, PackedValue, PrimeCharacteristicRing,
+    RowMajorMatrixView,
 };
 use mlu_sumcheck::{bind, prove_round, prove_round_of_claim, verify_round};
+use mlu_test_support::numbers::element;
 use multilinear_util::eq_batch::{eval_eq_batch, eval_eq_batch_in_chunks};
 use multilinear_util::laws;
 use multilinear_util::point::{BitOrder, Point};
 use multilinear_util::poly::Poly;
 use multilinear_util::split_eq::SplitEq;
+use std::alloc::{AllocError, Global};
 use std::test::Fail;
 
 #[test]
@@ -54,19 +62,19 @@ fn batches(rt: HostRuntime) -> Result<(), Fail> {
     let columns = RowMajorMatrixView::new(&points, 3);
     eval_eq_batch::<BabyBear<4>, _, false>(rt.alloc(), columns, &mut out, &scalars)?;
     assert!(rt; out == [0, 3, 2, 5].map(BabyBear::from_u32));
-    // one point, its table added in two chunks
-    let point = [2, 3].map(BabyBear::<4>::from_u32);
-    let mut out = [BabyBear::<4>::ONE; 4];
-    let column = RowMajorMatrixView::new_col(&point);
-    eval_eq_batch_in_chunks::<BabyBear<4>, _, true>(
-        rt.alloc(),
-        column,
-        &mut out,
-        &[BabyBear::ONE],
-        1,
-    )?;
-    assert!(rt; out[3].as_canonical_u32() == 7);
+    assert!(rt; residues(rt.alloc(), BatchInChunks)?);
     Ok(())
+}
+
+/// Whether the table of the point (2, 3), added in two chunks, makes 7 of the last 1.
+pub fn adds_in_chunks<F: Field, EF: ExtensionField<F>>(alloc: Global) -> Result<bool, AllocError>
+    requires four_fit { 4 * type_size EF.row < 2 ^ 63 }
+{
+    let point = [element::<EF>(2), element(3)];
+    let mut out = [EF::ONE; 4];
+    let column = RowMajorMatrixView::new_col(&point);
+    eval_eq_batch_in_chunks::<F, EF, true>(alloc, column, &mut out, &[EF::ONE], 1)?;
+    Ok(out.as_slice().last() == Some(&element(7)))
 }
 
 #[test]

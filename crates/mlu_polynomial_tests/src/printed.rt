@@ -1,26 +1,30 @@
-//! What `{:?}` is to print of values that hold a list of four residues.
+//! What `{:?}` is to print of values that hold residues, in packings of four lanes.
 
+use crate::{polynomials, slices};
+use mlu_ring::ExtensionField;
 use mlu_test_support::texts::debug_text;
 use std::alloc::{AllocError, Global};
 use std::fmt::Debug;
 
-/// The residues 3, 4, 5, 6.
-pub const VALUES: &str =
-    "[BabyBear { value: 3 }, BabyBear { value: 4 }, BabyBear { value: 5 }, BabyBear { value: 6 }]";
+/// What is printed.
+#[derive(Drop)]
+pub enum Row {
+    Polynomials,
+    SecondHalves,
+}
 
-/// The weights of the point (1, 1).
-pub const WEIGHTS: &str =
-    "[BabyBear { value: 0 }, BabyBear { value: 0 }, BabyBear { value: 0 }, BabyBear { value: 1 }]";
+/// Whether all that the row prints is right.
+pub fn are_right<R: ExtensionField<R> + Debug>(alloc: Global, row: Row) -> Result<bool, AllocError>
+where
+    R::ExtensionPacking: Debug,
+{
+    match row {
+        Row::Polynomials => polynomials::texts::prints::<R>(alloc),
+        Row::SecondHalves => slices::texts::prints::<R>(alloc),
+    }
+}
 
-/// Whether what is printed of the value is the list between two texts.
-pub fn is_printed<T: Debug>(
-    alloc: Global,
-    value: &T,
-    (before, list, after): (&str, &str, &str),
-) -> Result<bool, AllocError> {
-    let text = debug_text(alloc, value)?;
-    let Some(rest) = text.as_str().strip_prefix(before) else {
-        return Ok(false);
-    };
-    Ok(rest.strip_prefix(list) == Some(after))
+/// Whether this is what is printed of the value.
+pub fn is_printed<T: Debug>(alloc: Global, value: &T, text: &str) -> Result<bool, AllocError> {
+    Ok(debug_text(alloc, value)?.as_str() == text)
 }

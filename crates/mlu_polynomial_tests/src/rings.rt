@@ -2,13 +2,15 @@
 //!
 //! A function that calls generic code at a ring pays for every implementation that the ring stands on; a call of one
 //! of these pays for none.
-ghost use Rattle.std.specs.Prelude.{◌<◌, length};
+ghost use Rattle.std.specs.Prelude.{◌*◌, ◌<◌, ◌^◌, length};
+ghost use Rattle.std.specs.Mem.{type_size};
 
-use crate::{polynomials, slices, sumcheck};
+use crate::{examples, polynomials, printed, slices, sumcheck};
 use mlu_ext::QuarticExtension;
 use mlu_lanes::{BabyBear, WrappingU64};
-use mlu_test_support::numbers::elements;
+use mlu_ring::{ExtensionField, Field, Sample, SelfAlgebra};
 use std::alloc::{AllocError, Global};
+use std::fmt::Debug;
 
 /// The residues modulo a prime.
 type Residue = BabyBear<4>;
@@ -21,34 +23,53 @@ pub type Word = WrappingU64<4>;
 
 /// What is tried over residues, and over their quartic extension.
 pub enum Row {
-    Constants,
-    /// Over the residues alone.
+    BatchInChunks,
     Polynomials(polynomials::Row),
-    /// What is printed of second halves, over the residues alone.
-    SecondHalves,
+    /// Over the residues alone.
+    Printed(printed::Row),
     Slices(slices::Row),
     Sumcheck(sumcheck::Row),
 }
 
+/// Whether the row holds over an extension of a ring.
+fn holds<F: Field, EF: ExtensionField<F> + SelfAlgebra + Sample>(
+    alloc: Global,
+    row: Row,
+) -> Result<bool, AllocError>
+    requires two_rounds_fit { 6 * type_size EF.row < 2 ^ 63 }
+{
+    match row {
+        Row::BatchInChunks => examples::adds_in_chunks::<F, EF>(alloc),
+        Row::Polynomials(row) => polynomials::holds::<EF>(alloc, row),
+        Row::Printed(_) => Ok(false),
+        Row::Slices(row) => slices::holds::<EF>(alloc, row),
+        Row::Sumcheck(row) => sumcheck::holds::<F, EF>(alloc, row),
+    }
+}
+
+/// Whether the row holds over a ring as an extension of itself.
+fn holds_over_itself<R: ExtensionField<R> + SelfAlgebra + Sample + Debug>(
+    alloc: Global,
+    row: Row,
+) -> Result<bool, AllocError>
+where
+    R::ExtensionPacking: Debug,
+    requires two_rounds_fit { 6 * type_size R.row < 2 ^ 63 }
+{
+    match row {
+        Row::Printed(row) => printed::are_right::<R>(alloc, row),
+        _ => holds::<R, R>(alloc, row),
+    }
+}
+
 /// Whether the row holds over the residues modulo a prime.
 pub fn residues(alloc: Global, row: Row) -> Result<bool, AllocError> {
-    match row {
-        Row::Constants => polynomials::polys::is_constant::<Residue>(alloc),
-        Row::Polynomials(row) => polynomials::holds::<Residue>(alloc, row),
-        Row::SecondHalves => slices::texts::prints::<Residue>(alloc),
-        Row::Slices(row) => slices::holds::<Residue>(alloc, row),
-        Row::Sumcheck(row) => sumcheck::holds::<Residue, Residue>(alloc, row),
-    }
+    holds_over_itself::<Residue>(alloc, row)
 }
 
 /// Whether the row holds over the quartic extension of residues.
 pub fn quartics(alloc: Global, row: Row) -> Result<bool, AllocError> {
-    match row {
-        Row::Constants => polynomials::polys::is_constant::<Quartic>(alloc),
-        Row::Polynomials(_) | Row::SecondHalves => Ok(false),
-        Row::Slices(row) => slices::holds::<Quartic>(alloc, row),
-        Row::Sumcheck(row) => sumcheck::holds::<Residue, Quartic>(alloc, row),
-    }
+    holds::<Residue, Quartic>(alloc, row)
 }
 
 /// Whether the row holds over the residues modulo 2^64.
@@ -64,8 +85,7 @@ pub fn residues_in_quartics(
 ) -> Result<bool, AllocError>
     requires { length coordinates.now < 64 }
 {
-    let images = elements::<Quartic>(alloc, numbers)?;
-    polynomials::images::are::<Residue, Quartic>(alloc, coordinates, &images)
+    polynomials::images::are_numbers::<Residue, Quartic>(alloc, coordinates, numbers)
 }
 
 /// Whether 5 times the weights of the point have these images in the words.

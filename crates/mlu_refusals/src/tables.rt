@@ -66,28 +66,20 @@ fn compressed<R: ExtensionField<R>>(
     let view = poly.as_view();
     let answered = match call {
         Call::PrefixToPacked => {
-            gives_lanes::<R>(
-                split.compress_prefix_to_packed(alloc, view),
-                &[9, 10, 11, 12],
-            )
+            let left = split.compress_prefix_to_packed(alloc, view);
+            gives_lanes::<R>(left, &[9, 10, 11, 12])
         }
         Call::PrefixShifted => {
-            gives_poly(
-                split.compress_prefix_shifted(alloc, view),
-                &[-5, -6, -7, -8],
-            )
+            let left = split.compress_prefix_shifted(alloc, view);
+            gives_poly(left, &[-5, -6, -7, -8])
         }
         Call::SuffixShifted => {
-            gives_poly(
-                split.compress_suffix_shifted(alloc, view),
-                &[-2, -4, -6, -8],
-            )
+            let left = split.compress_suffix_shifted(alloc, view);
+            gives_poly(left, &[-2, -4, -6, -8])
         }
         Call::PrefixInRuns => {
-            gives_poly(
-                split.compress_prefix_split(alloc, view, 2),
-                &[25, 26, 27, 28],
-            )
+            let left = split.compress_prefix_split(alloc, view, 2);
+            gives_poly(left, &[25, 26, 27, 28])
         }
         Call::PrefixToPackedInRuns => {
             let left = split.compress_prefix_to_packed_split(alloc, view, 2);

@@ -13,4 +13,5 @@ mod lines;
 mod operands;
 pub mod ops;
 mod sizes;
+mod splits;
 pub mod words;

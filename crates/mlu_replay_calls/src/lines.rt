@@ -7,6 +7,7 @@ ghost use Rattle.mlu_replay_calls.specs.Elements.{IsListWord};
 use crate::element::{Element, write_between};
 use mlu_replay_lines::fault::Fault;
 use mlu_ring::{ExtensionField, Field};
+use multilinear_util::point::Point;
 use multilinear_util::poly::Poly;
 use std::alloc::{AllocError, Global};
 
@@ -49,6 +50,49 @@ pub fn value_word<T: Element>(alloc: Global, value: Result<T, AllocError>) -> Re
     ensures { IfOk result (λ text. IsOkAnd value (λ x. T.stands (string_bytes text) x)) }
 {
     word(alloc, value?)
+}
+
+/// The word of a list that a call gives.
+///
+/// # Errors
+/// Where memory is refused, to the call too.
+pub fn vec_word<T: Element>(
+    alloc: Global,
+    list: Result<Vec<T>, AllocError>,
+) -> Result<String, Fault>
+    ensures { IfOk result (λ text. IsOkAnd list (λ list. IsListWord T.stands (string_bytes text) list.items)) }
+{
+    let list = list?;
+    list_word(alloc, &list)
+}
+
+/// The word of a point that a call gives.
+///
+/// # Errors
+/// Where memory is refused, to the call too.
+pub fn point_word<T: Element>(
+    alloc: Global,
+    point: Result<Point<T>, AllocError>,
+) -> Result<String, Fault>
+    ensures { IfOk result (λ text. IsOkAnd point (λ coordinates. IsListWord T.stands (string_bytes text) coordinates)) }
+{
+    let point = point?;
+    list_word(alloc, point.as_slice())
+}
+
+/// The word of an output that a call has filled.
+///
+/// # Errors
+/// Where memory is refused, to the call too.
+pub fn filled_word<T: Element>(
+    alloc: Global,
+    filled: Result<(), AllocError>,
+    out: &[T],
+) -> Result<String, Fault>
+    ensures { IfOk result (λ text. IsListWord T.stands (string_bytes text) out.now) }
+{
+    filled?;
+    list_word(alloc, out)
 }
 
 /// The word of the entries of a table that a call gives.

@@ -6,16 +6,13 @@
 ghost use Rattle.std.specs.Prelude.{◌≡◌, ◌^◌, ◌<◌, ◌≤◌, length, IfOk};
 ghost use Rattle.mlu_replay_calls.specs.Elements.{IsElement, IsListWord, IsScale};
 ghost use Rattle.mlu_replay_calls.specs.Words.{IsTaken, Takes, words_left};
-ghost use Rattle.multilinear_util.specs.Split.{split_entries};
 
 use crate::element::Element;
 use crate::lines::NONE;
 use crate::words::Words;
 use mlu_replay_lines::fault::{Fault, Reason};
-use mlu_ring::{Additive, ExtensionField, Field};
 use multilinear_util::point::Point;
 use multilinear_util::poly::Poly;
-use multilinear_util::split_eq::SplitEq;
 use std::alloc::Global;
 
 /// The most variables of a table that the program makes from a point or a number.
@@ -180,89 +177,6 @@ impl Words<'_> {
         let scale = self.element()?;
         Ok((table, point, scale))
     }
-
-    /// The storage of a split table, a table, and a split table with as many entries.
-    pub fn table_and_split<T: Element, F: Field, EF: ExtensionField<F> + Element>(
-        &mut self,
-    ) -> Result<(Poly<T>, SplitEq<F, EF>), Fault>
-        ensures { IfOk result (λ x. length x.0 ≡ length (split_entries EF.ring x.1)) }
-    {
-        let is_packed = self.is_packed()?;
-        let table = self.table()?;
-        let split = self.split(is_packed)?;
-        if table.num_variables() != split.num_variables() {
-            return Err(Fault::Unknown(Reason::Size));
-        }
-        Ok((table, split))
-    }
-
-    /// The storage of a split table, a table, and a split table with at most as many entries.
-    #[tactic(auto, using(crate::proofs::Powers::part_within))]
-    pub fn table_and_smaller_split<F: Field + Element, EF: ExtensionField<F> + Element>(
-        &mut self,
-    ) -> Result<(Poly<F>, SplitEq<F, EF>), Fault>
-        ensures { IfOk result (λ x. length (split_entries EF.ring x.1) ≤ length x.0) }
-    {
-        let is_packed = self.is_packed()?;
-        let table = self.table()?;
-        let split: SplitEq<F, EF> = self.split(is_packed)?;
-        if split.num_variables() > table.num_variables() {
-            return Err(Fault::Unknown(Reason::Size));
-        }
-        Ok((table, split))
-    }
-
-    /// The split table of a point, times a scale.
-    pub fn split<F: Field, EF: ExtensionField<F> + Element>(
-        &mut self,
-        is_packed: bool,
-    ) -> Result<SplitEq<F, EF>, Fault>
-        ensures { IfOk result (λ split. length (split_entries EF.ring split) < 2 ^ 64) }
-    {
-        let point = self.short_point()?;
-        let scale = self.element()?;
-        split_table(self.alloc(), &point, scale, is_packed)
-    }
-
-    /// The storage of a split table, a point and a scale.
-    pub fn stored_split<F: Field, EF: ExtensionField<F> + Element>(
-        &mut self,
-    ) -> Result<SplitEq<F, EF>, Fault>
-        ensures { IfOk result (λ split. length (split_entries EF.ring split) < 2 ^ 64) }
-    {
-        let is_packed = self.is_packed()?;
-        self.split(is_packed)
-    }
-
-    /// The split table of a point.
-    pub fn unscaled_split<F: Field, EF: ExtensionField<F> + Element>(
-        &mut self,
-        is_packed: bool,
-    ) -> Result<SplitEq<F, EF>, Fault>
-        ensures { IfOk result (λ split. length (split_entries EF.ring split) < 2 ^ 64) }
-    {
-        let point = self.short_point()?;
-        split_table(self.alloc(), &point, EF::ONE, is_packed)
-    }
-}
-
-/// The split table of a point, times a scale, packed or not.
-#[tactic(auto, using(crate::proofs::Powers::half_power_fits))]
-fn split_table<F: Field, EF: ExtensionField<F>>(
-    alloc: Global,
-    point: &Point<EF>,
-    scale: EF,
-    is_packed: bool,
-) -> Result<SplitEq<F, EF>, Fault>
-    requires { 2 ^ length point.now < 2 ^ 64 }
-    ensures { IfOk result (λ split. length (split_entries EF.ring split) < 2 ^ 64) }
-{
-    let split = if is_packed {
-        SplitEq::new_packed(alloc, point, scale)?
-    } else {
-        SplitEq::new_unpacked(alloc, point, scale)?
-    };
-    Ok(split)
 }
 
 /// The list that the word stands for.

@@ -1,5 +1,5 @@
 -- How many cases there are, and what the program says of all of them.
-use Rattle.std.specs.Prelude.{◌≡◌, ◌≢◌, ℕ, ◌+◌, ◌<◌, List, [], ◌∷◌, ◌++◌, length, ◌==◌, if◌then◌else◌, ◌⊎◌, ⊤, None, IsUtf8, codes, decimal}
+use Rattle.std.specs.Prelude.{◌≡◌, ◌≢◌, ℕ, ◌+◌, ◌<◌, List, [], ◌∷◌, ◌++◌, length, ◌==◌, if◌then◌else◌, ◌⊎◌, ⊤, None, IfSome, IsUtf8, codes, decimal}
 use Rattle.mlu_replay_lines.specs.Faults.{reason_text}
 use Rattle.std.specs.List.{before_first}
 use Rattle.mlu_replay_lines.specs.declared.fault.Reason.{Reason}
@@ -35,6 +35,10 @@ abbrev pub AllAgree : (List ℕ → List ℕ → Type 0) → List (List ℕ) →
 AllAgree gives [] = ⊤
 AllAgree gives (line ∷ later) = Agrees gives line × AllAgree gives later
 
+-- where the bytes are known, each of their lines is such a case
+abbrev pub LinesAgree : (List ℕ → List ℕ → Type 0) → Option (List ℕ) → Type 0
+LinesAgree gives known = IfSome known (λ bytes. AllAgree gives (lines_of bytes))
+
 -- known bytes stay at the front
 abbrev pub Grows : Option (List ℕ) → Option (List ℕ) → Type 0
 Grows old new = (bytes : List ℕ) × Appends old new bytes
@@ -59,6 +63,10 @@ first_word text = before_first (λ byte. byte == 32) text
 -- the line for this case, where it differs
 abbrev pub case_line : ℕ → Case → List ℕ → List ℕ
 case_line number case answer = differ_line number (first_word case.asked.now) case.given.now answer
+
+-- where the bytes are known, as many lines are counted as they have
+abbrev pub CountsLines : Tally → Option (List ℕ) → Type 0
+CountsLines tally known = IfSome known (λ bytes. tally.compared + tally.unknown ≡ length (lines_of bytes))
 
 -- the lines that are no case, or one whose answers differ
 abbrev pub disagreeing : Tally → ℕ

@@ -1,12 +1,12 @@
 //! Cases answered line by line, and their count.
-ghost use Rattle.std.specs.Prelude.{◌≡◌, ◌≢◌, ◌+◌, ◌<◌, ◌≤◌, ◌^◌, ◌↔◌, ℕ, List, [], length, string_bytes};
+ghost use Rattle.std.specs.Prelude.{◌≡◌, ◌≢◌, ◌+◌, ◌<◌, ◌≤◌, ◌^◌, ◌↔◌, ℕ, List, [], string_bytes};
 ghost use Rattle.std.specs.Prelude.{true, false, IfOk, IfErr, IfSome, OnOk};
 ghost use Rattle.std.specs.Io.KnownBytes.{Appends, IsAtEnd};
 ghost use Rattle.std.specs.IoError.{error_kind};
 ghost use Rattle.std.specs.Io.BufRead.{DropsThrough, first_piece};
-ghost use Rattle.mlu_replay_lines.specs.Counts.{Agrees, AllAgree, Grows, GrowsTo, IsCase, IsNoCase, MoreDiffer, MoreUnknown};
-ghost use Rattle.mlu_replay_lines.specs.Counts.{TellsDiffering, TellsUnknown, case_line, count_line, disagreeing};
-ghost use Rattle.mlu_replay_lines.specs.Counts.{first_word, lines_of, unknown_line};
+ghost use Rattle.mlu_replay_lines.specs.Counts.{Agrees, CountsLines, Grows, GrowsTo, IsCase, IsNoCase, LinesAgree, MoreDiffer};
+ghost use Rattle.mlu_replay_lines.specs.Counts.{MoreUnknown, TellsDiffering, TellsUnknown, case_line, count_line, disagreeing};
+ghost use Rattle.mlu_replay_lines.specs.Counts.{first_word, unknown_line};
 ghost use Rattle.mlu_replay_lines.specs.Faults.{reason_text};
 
 use crate::fault::{Fault, Reason};
@@ -61,9 +61,9 @@ pub fn replay_streams<A: Answers, R: Read + Drop, W: Write + Drop>(
     input: R,
     out: W,
 ) -> Result<Tally, Stop>
-    ensures lines { IfOk result (λ tally. IfSome (R.remaining input) (λ bytes. tally.compared + tally.unknown ≡ length (lines_of bytes))) }
+    ensures lines { IfOk result (λ tally. CountsLines tally (R.remaining input)) }
     ensures within { IfOk result (λ tally. tally.differ ≤ tally.compared) }
-    ensures agree { IfOk result (λ tally. disagreeing tally ≡ 0 → IfSome (R.remaining input) (λ bytes. AllAgree A.gives (lines_of bytes))) }
+    ensures agree { IfOk result (λ tally. disagreeing tally ≡ 0 → LinesAgree A.gives (R.remaining input)) }
 {
     let mut input = BufReader::new(alloc, input).map_err(|_| Stop::Memory)?;
     let mut out = BufWriter::new(alloc, out).map_err(|_| Stop::Memory)?;
@@ -81,9 +81,9 @@ pub fn replay<A: Answers, R: BufRead, W: Write>(
     input: &mut R,
     out: &mut W,
 ) -> Result<Tally, Stop>
-    ensures lines { IfOk result (λ tally. IfSome (R.remaining input.old) (λ bytes. tally.compared + tally.unknown ≡ length (lines_of bytes))) }
+    ensures lines { IfOk result (λ tally. CountsLines tally (R.remaining input.old)) }
     ensures within { IfOk result (λ tally. tally.differ ≤ tally.compared) }
-    ensures agree { IfOk result (λ tally. disagreeing tally ≡ 0 → IfSome (R.remaining input.old) (λ bytes. AllAgree A.gives (lines_of bytes))) }
+    ensures agree { IfOk result (λ tally. disagreeing tally ≡ 0 → LinesAgree A.gives (R.remaining input.old)) }
     ensures last { IfOk result (λ tally. GrowsTo (W.contents out.old) (W.contents out.new) (count_line tally)) }
 {
     let mut tally = Tally::default();

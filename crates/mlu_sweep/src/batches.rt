@@ -1,5 +1,5 @@
 //! Batches of equality tables, by points of both fields, written and added.
-ghost use Rattle.std.specs.Prelude.{◌≡◌, ◌*◌, ◌/◌, ◌<◌, ◌≤◌, ◌^◌, length};
+ghost use Rattle.std.specs.Prelude.{◌≡◌, ◌*◌, ◌/◌, ◌<◌, ◌≤◌, ◌^◌, IfOk, length, vec_len};
 
 use crate::definitions::add_batch;
 use crate::draws::{elements, rows};
@@ -13,13 +13,40 @@ use std::alloc::{AllocError, Global};
 
 /// Points of either field, of so many variables, one a column of rows, with a scalar each, and what is
 /// there before their tables.
-#[derive(Clone, Copy)]
-struct Batch<'a, F, EF> {
-    base: &'a [F],
-    ext: &'a [EF],
+#[derive(Drop)]
+struct Batch<F, EF> {
+    base: Vec<F>,
+    ext: Vec<EF>,
     variables: usize,
-    scalars: &'a [EF],
-    before: &'a [EF],
+    scalars: Vec<EF>,
+    before: Vec<EF>,
+}
+
+/// So many drawn points of either field. Fails at 32 variables and more.
+fn draw_batch<F: PrimeCharacteristicRing + Sample, EF: PrimeCharacteristicRing + Sample>(
+    alloc: Global,
+    report: &mut Report,
+    points: usize,
+    variables: usize,
+) -> Result<Batch<F, EF>, AllocError>
+    ensures base { IfOk result (λ batch. vec_len batch.base ≡ batch.variables * vec_len batch.scalars) }
+    ensures ext { IfOk result (λ batch. vec_len batch.ext ≡ batch.variables * vec_len batch.scalars) }
+    ensures places { IfOk result (λ batch. vec_len batch.before ≡ 2 ^ batch.variables) }
+{
+    if variables >= 32 {
+        return Err(AllocError);
+    }
+    let before: Vec<EF> = elements(alloc, report, 1 << variables)?;
+    let scalars: Vec<EF> = elements(alloc, report, points)?;
+    let ext: Vec<EF> = rows(alloc, report, variables, points)?;
+    let base: Vec<F> = rows(alloc, report, variables, points)?;
+    Ok(Batch {
+        base,
+        ext,
+        variables,
+        scalars,
+        before,
+    })
 }
 
 /// Compares batches of so many drawn points of either field, written and added.
@@ -29,22 +56,9 @@ pub fn sum_tables<F: Field + Sample, EF: ExtensionField<F> + Sample>(
     points: usize,
     variables: usize,
 ) -> Result<(), AllocError> {
-    if variables >= 32 {
-        return Err(AllocError);
-    }
-    let before: Vec<EF> = elements(alloc, report, 1 << variables)?;
-    let scalars: Vec<EF> = elements(alloc, report, points)?;
-    let ext: Vec<EF> = rows(alloc, report, variables, points)?;
-    let base: Vec<F> = rows(alloc, report, variables, points)?;
-    let batch = Batch {
-        base: &base,
-        ext: &ext,
-        variables,
-        scalars: &scalars,
-        before: &before,
-    };
-    compare::<F, EF, false>(alloc, report, batch)?;
-    compare::<F, EF, true>(alloc, report, batch)
+    let batch: Batch<F, EF> = draw_batch(alloc, report, points, variables)?;
+    over_both::<F, EF, false>(alloc, report, &batch)?;
+    over_both::<F, EF, true>(alloc, report, &batch)
 }
 
 /// The values with the batch added to them, or to zeros.
@@ -61,30 +75,66 @@ fn after<R: PrimeCharacteristicRing>(
     Ok(sums)
 }
 
-/// Compares a batch by the points of each field, whole and in each number of chunks.
-fn compare<F: Field, EF: ExtensionField<F>, const INITIALIZED: bool>(
+/// Compares a batch by the points of each field.
+fn over_both<F: Field, EF: ExtensionField<F>, const INITIALIZED: bool>(
     alloc: Global,
     report: &mut Report,
-    batch: Batch<'_, F, EF>,
+    batch: &Batch<F, EF>,
 ) -> Result<(), AllocError>
-    requires base { length batch.base.now ≡ batch.variables * length batch.scalars.now }
-    requires ext { length batch.ext.now ≡ batch.variables * length batch.scalars.now }
-    requires places { length batch.before.now ≡ 2 ^ batch.variables }
+    requires base { vec_len batch.now.base ≡ batch.now.variables * vec_len batch.now.scalars }
+    requires ext { vec_len batch.now.ext ≡ batch.now.variables * vec_len batch.now.scalars }
+    requires places { vec_len batch.now.before ≡ 2 ^ batch.now.variables }
 {
-    let sums = after(alloc, batch.before, batch.ext, batch.scalars, INITIALIZED)?;
-    let images: Vec<EF> = plain::images(alloc, batch.base)?;
-    let base_sums = after(alloc, batch.before, &images, batch.scalars, INITIALIZED)?;
+    let sums = after(
+        alloc,
+        &batch.before,
+        &batch.ext,
+        &batch.scalars,
+        INITIALIZED,
+    )?;
+    over_the_extension::<F, EF, INITIALIZED>(alloc, report, batch, &sums);
+    let images: Vec<EF> = plain::images(alloc, &batch.base)?;
+    let sums = after(alloc, &batch.before, &images, &batch.scalars, INITIALIZED)?;
+    over_the_base::<F, EF, INITIALIZED>(alloc, report, batch, &sums);
+    Ok(())
+}
+
+/// Compares a batch by the points of the extension, whole and in each number of chunks.
+fn over_the_extension<F: Field, EF: ExtensionField<F>, const INITIALIZED: bool>(
+    alloc: Global,
+    report: &mut Report,
+    batch: &Batch<F, EF>,
+    sums: &[EF],
+)
+    requires base { vec_len batch.now.base ≡ batch.now.variables * vec_len batch.now.scalars }
+    requires ext { vec_len batch.now.ext ≡ batch.now.variables * vec_len batch.now.scalars }
+    requires places { vec_len batch.now.before ≡ 2 ^ batch.now.variables }
+{
     let answer = summed::<F, EF, INITIALIZED>(alloc, batch, Call::Whole, 0);
-    report.list("eval_eq_batch", answer, &sums);
-    let answer = summed::<F, EF, INITIALIZED>(alloc, batch, Call::BaseWhole, 0);
-    report.list("eval_eq_base_batch", answer, &base_sums);
+    report.list("eval_eq_batch", answer, sums);
     for log_chunks in 0..=batch.variables {
         let answer = summed::<F, EF, INITIALIZED>(alloc, batch, Call::InChunks, log_chunks);
-        report.list("eval_eq_batch_in_chunks", answer, &sums);
-        let answer = summed::<F, EF, INITIALIZED>(alloc, batch, Call::BaseInChunks, log_chunks);
-        report.list("eval_eq_base_batch_in_chunks", answer, &base_sums);
+        report.list("eval_eq_batch_in_chunks", answer, sums);
     }
-    Ok(())
+}
+
+/// Compares a batch by the points of the base, whole and in each number of chunks.
+fn over_the_base<F: Field, EF: ExtensionField<F>, const INITIALIZED: bool>(
+    alloc: Global,
+    report: &mut Report,
+    batch: &Batch<F, EF>,
+    sums: &[EF],
+)
+    requires base { vec_len batch.now.base ≡ batch.now.variables * vec_len batch.now.scalars }
+    requires ext { vec_len batch.now.ext ≡ batch.now.variables * vec_len batch.now.scalars }
+    requires places { vec_len batch.now.before ≡ 2 ^ batch.now.variables }
+{
+    let answer = summed::<F, EF, INITIALIZED>(alloc, batch, Call::BaseWhole, 0);
+    report.list("eval_eq_base_batch", answer, sums);
+    for log_chunks in 0..=batch.variables {
+        let answer = summed::<F, EF, INITIALIZED>(alloc, batch, Call::BaseInChunks, log_chunks);
+        report.list("eval_eq_base_batch_in_chunks", answer, sums);
+    }
 }
 
 /// A call that sums a batch.
@@ -99,19 +149,25 @@ enum Call {
 /// A copy of the places after the call, in 2^`log_chunks` chunks where it makes chunks.
 fn summed<F: Field, EF: ExtensionField<F>, const INITIALIZED: bool>(
     alloc: Global,
-    batch: Batch<'_, F, EF>,
+    batch: &Batch<F, EF>,
     call: Call,
     log_chunks: usize,
 ) -> Result<Vec<EF>, AllocError>
-    requires base { length batch.base.now ≡ batch.variables * length batch.scalars.now }
-    requires ext { length batch.ext.now ≡ batch.variables * length batch.scalars.now }
-    requires places { length batch.before.now ≡ 2 ^ batch.variables }
-    requires chunks { log_chunks ≤ batch.variables }
+    requires base { vec_len batch.now.base ≡ batch.now.variables * vec_len batch.now.scalars }
+    requires ext { vec_len batch.now.ext ≡ batch.now.variables * vec_len batch.now.scalars }
+    requires places { vec_len batch.now.before ≡ 2 ^ batch.now.variables }
+    requires chunks { log_chunks ≤ batch.now.variables }
 {
-    let (n, scalars) = (batch.variables, batch.scalars);
-    let base = matrix(batch.base, scalars.len(), n, batch.before.len(), log_chunks);
-    let ext = matrix(batch.ext, scalars.len(), n, batch.before.len(), log_chunks);
-    let mut out = Vec::from_slice(alloc, batch.before)?;
+    let (n, scalars) = (batch.variables, batch.scalars.as_slice());
+    let base = matrix(
+        &batch.base,
+        scalars.len(),
+        n,
+        batch.before.len(),
+        log_chunks,
+    );
+    let ext = matrix(&batch.ext, scalars.len(), n, batch.before.len(), log_chunks);
+    let mut out = Vec::from_slice(alloc, &batch.before)?;
     let places = out.as_mut_slice();
     match call {
         Call::Whole => eval_eq_batch::<F, EF, INITIALIZED>(alloc, ext, places, scalars)?,

@@ -4,7 +4,7 @@ ghost use Rattle.std.specs.Prelude.{◌≡◌, ◌^◌, IfOk, vec_len, length};
 use mlu_ring::{Additive, Algebra, PrimeCharacteristicRing};
 use mlu_test_support::lists::{filled, pair};
 use mlu_test_support::plain;
-use multilinear_util::point::Successor;
+use multilinear_util::point::{Point, Successor};
 use std::alloc::{AllocError, Global};
 
 /// `scale` times the weight of each vertex. Fails at 32 coordinates and more.
@@ -66,9 +66,12 @@ pub fn compressed_suffix<F: Additive, EF: Algebra<F>>(
     plain::compressed_suffix(alloc, weights, &images)
 }
 
-/// What the table of a point leaves of the entries of a polynomial, as it is and moved up by one place.
+/// What the table of a point, times a scale, leaves of the entries of a polynomial, as it is and moved up by
+/// one place.
 #[derive(Drop)]
 pub struct Compressed<R> {
+    pub point: Point<R>,
+    pub scale: R,
     pub weights: Vec<R>,
     pub prefix: Vec<R>,
     pub suffix: Vec<R>,
@@ -78,14 +81,21 @@ pub struct Compressed<R> {
 
 impl<R: PrimeCharacteristicRing> Compressed<R> {
     /// The compressions at the point, times the scale. Fails at 32 coordinates and more.
-    pub fn new(alloc: Global, point: &[R], scale: R, entries: &[R]) -> Result<Self, AllocError> {
-        let weights = table(alloc, point, scale)?;
+    pub fn new(
+        alloc: Global,
+        point: Point<R>,
+        scale: R,
+        entries: &[R],
+    ) -> Result<Self, AllocError> {
+        let weights = table(alloc, point.as_slice(), scale)?;
         let moved = plain::moved(alloc, &weights)?;
         let prefix = plain::compressed_prefix(alloc, &weights, entries)?;
         let suffix = plain::compressed_suffix(alloc, &weights, entries)?;
         let moved_prefix = plain::compressed_prefix(alloc, &moved, entries)?;
         let moved_suffix = plain::compressed_suffix(alloc, &moved, entries)?;
         Ok(Compressed {
+            point,
+            scale,
             weights,
             prefix,
             suffix,
@@ -179,6 +189,11 @@ pub fn plus_scaled<R: PrimeCharacteristicRing>(
         *place = *place + scale * *entry;
     }
     Ok(sums)
+}
+
+/// The last value, and the last entry, times the scale, added to it.
+pub fn plus_last<R: PrimeCharacteristicRing>(values: &[R], scale: R, entries: &[R]) -> R {
+    plain::last(values) + scale * plain::last(entries)
 }
 
 /// The coordinates in column `i` of rows of `points` each.

@@ -2,7 +2,8 @@
 ghost use Rattle.std.specs.Prelude.{◌≡◌, ◌*◌, IfOk, vec_len};
 
 use crate::report::Report;
-use mlu_ring::{PrimeCharacteristicRing, Sample};
+use mlu_ring::{Algebra, PrimeCharacteristicRing, Sample};
+use mlu_test_support::plain;
 use mlu_test_tables::poly;
 use multilinear_util::poly::Poly;
 use rand::RngExt;
@@ -70,4 +71,23 @@ pub fn polynomial<T: PrimeCharacteristicRing + Sample>(
         return Err(AllocError);
     }
     poly(elements(alloc, report, 1 << variables)?)
+}
+
+/// Drawn polynomials of as many variables over the base and over the extension.
+#[derive(Drop)]
+pub struct Polynomials<F, EF> {
+    pub base: Poly<F>,
+    /// The images of the values over the base.
+    pub images: Vec<EF>,
+    pub ext: Poly<EF>,
+}
+
+impl<F: PrimeCharacteristicRing + Sample, EF: Algebra<F> + Sample> Polynomials<F, EF> {
+    /// Polynomials of so many variables. Fails at 32 variables and more.
+    pub fn draw(alloc: Global, report: &mut Report, variables: usize) -> Result<Self, AllocError> {
+        let base: Poly<F> = polynomial(alloc, report, variables)?;
+        let images: Vec<EF> = plain::images(alloc, base.as_slice())?;
+        let ext: Poly<EF> = polynomial(alloc, report, variables)?;
+        Ok(Polynomials { base, images, ext })
+    }
 }

@@ -1,5 +1,5 @@
 //! The calls of `mlu_eq` on split tables by themselves: first halves of any length, none too.
-ghost use Rattle.std.specs.Prelude.{◌≡◌, ◌*◌, ◌<◌, length};
+ghost use Rattle.std.specs.Prelude.{◌≡◌, ◌*◌, ◌<◌, IfOk, IsTrue, length, vec_len};
 
 use crate::definitions::{compressed_suffix, dot, plus_rows, plus_scaled, two_and_steps};
 use crate::draws::{blocks, element, elements, rows};
@@ -71,7 +71,7 @@ fn in_lanes<F: Field + Sample, EF: ExtensionField<F> + Sample>(
     with_rows(alloc, report, &eq1, weights)
 }
 
-/// Compares the calls on a second half with these weights, and on a copy of it with each drawn first half.
+/// Compares the calls on a second half with these weights, by itself and below each drawn first half.
 fn with_rows<F: Field + Sample, EF: ExtensionField<F> + Sample>(
     alloc: Global,
     report: &mut Report,
@@ -85,17 +85,28 @@ fn with_rows<F: Field + Sample, EF: ExtensionField<F> + Sample>(
     report.shape = Shape::Slice {
         entries: weights.len(),
     };
+    by_itself(alloc, report, eq1, weights)?;
+    for rows in ROWS {
+        with_drawn_rows(alloc, report, rows, eq1, weights)?;
+    }
+    Ok(())
+}
+
+/// Compares the calls on a second half with these weights, the step with drawn factors.
+fn by_itself<F: Field, EF: ExtensionField<F> + Sample>(
+    alloc: Global,
+    report: &mut Report,
+    eq1: &EqMaybePacked<F, EF>,
+    weights: &[EF],
+) -> Result<(), AllocError>
+    requires { length weights.now ≡ length eq1.now.weights }
+{
     let count = eq1.num_scalar_evals();
     report.agrees("EqMaybePacked::num_scalar_evals", count == weights.len());
     let last = plain::last(weights);
     report.value("EqMaybePacked::last_scalar", eq1.last_scalar(), last);
     let factors = (element(report), element(report), element(report));
-    step(alloc, report, eq1, weights, factors)?;
-    let copy = eq1.try_clone(alloc)?;
-    for rows in ROWS {
-        with_drawn_rows(alloc, report, rows, &copy, weights)?;
-    }
-    Ok(())
+    step(alloc, report, eq1, weights, factors)
 }
 
 /// Compares the step to the next row that a second half with these weights adds to twos.
@@ -115,6 +126,42 @@ pub fn step<F: Field, EF: ExtensionField<F>>(
     Ok(())
 }
 
+/// A split table by its halves, and all its entries, as they are and moved up by one place.
+#[derive(Drop)]
+struct Split<F: Field, EF: ExtensionField<F>> {
+    eq0: Vec<EF>,
+    eq1: EqMaybePacked<F, EF>,
+    whole: Vec<EF>,
+    moved: Vec<EF>,
+}
+
+/// So many drawn entries above a copy of the second half, which has these weights.
+fn draw_split<F: Field, EF: ExtensionField<F> + Sample>(
+    alloc: Global,
+    report: &mut Report,
+    rows: usize,
+    eq1: &EqMaybePacked<F, EF>,
+    weights: &[EF],
+) -> Result<Split<F, EF>, AllocError>
+    requires { length weights.now ≡ length eq1.now.weights }
+    ensures weights { IfOk result (λ split. split.eq1.weights ≡ eq1.now.weights) }
+    ensures whole { IfOk result (λ split. vec_len split.whole ≡ vec_len split.eq0 * length split.eq1.weights) }
+{
+    let eq0: Vec<EF> = elements(alloc, report, rows)?;
+    if eq0.len() >= 256 || weights.len() >= 256 {
+        return Err(AllocError);
+    }
+    let whole = plain::split_table(alloc, &eq0, weights)?;
+    let moved = plain::moved(alloc, &whole)?;
+    let eq1 = eq1.try_clone(alloc)?;
+    Ok(Split {
+        eq0,
+        eq1,
+        whole,
+        moved,
+    })
+}
+
 /// Compares the calls on a first half of so many drawn entries.
 fn with_drawn_rows<F: Field + Sample, EF: ExtensionField<F> + Sample>(
     alloc: Global,
@@ -125,45 +172,41 @@ fn with_drawn_rows<F: Field + Sample, EF: ExtensionField<F> + Sample>(
 ) -> Result<(), AllocError>
     requires { length weights.now ≡ length eq1.now.weights }
 {
-    let eq0: Vec<EF> = elements(alloc, report, rows)?;
-    if eq0.len() >= 256 || weights.len() >= 256 {
-        return Err(AllocError);
-    }
-    let whole = plain::split_table(alloc, &eq0, weights)?;
-    let moved = plain::moved(alloc, &whole)?;
-    with_table(alloc, report, &eq0, eq1, (&whole, &moved), weights.len())
+    let split = draw_split(alloc, report, rows, eq1, weights)?;
+    compare_split(alloc, report, &split, weights.len())
 }
 
-/// Compares the calls on the table of both halves, and on that moved up by one place.
-fn with_table<F: Field + Sample, EF: ExtensionField<F> + Sample>(
+/// Compares the calls on a split table.
+fn compare_split<F: Field + Sample, EF: ExtensionField<F> + Sample>(
     alloc: Global,
     report: &mut Report,
-    eq0: &[EF],
-    eq1: &EqMaybePacked<F, EF>,
-    tables: (&[EF], &[EF]),
+    split: &Split<F, EF>,
     weights: usize,
 ) -> Result<(), AllocError>
-    requires weights { weights ≡ length eq1.now.weights }
-    requires table { length tables.0.now ≡ length eq0.now * length eq1.now.weights }
+    requires weights { weights ≡ length split.now.eq1.weights }
+    requires whole { vec_len split.now.whole ≡ vec_len split.now.eq0 * length split.now.eq1.weights }
 {
-    report.shape = Shape::Split {
-        rows: eq0.len(),
-        variables: eq1.num_variables(),
-        places: 1,
-    };
-    base_dots(alloc, report, eq0, eq1, tables)?;
-    ext_sums(alloc, report, eq0, eq1, tables.0)?;
+    report.shape = split.shape(1);
+    base_dots(alloc, report, split)?;
+    ext_sums(alloc, report, split)?;
     for places in PLACES {
-        report.shape = Shape::Split {
-            rows: eq0.len(),
-            variables: eq1.num_variables(),
-            places,
-        };
-        prefixes(alloc, report, eq0, eq1, tables, (weights, places))?;
-        prefixes_to_lanes(alloc, report, eq0, eq1, tables.0, (weights, places))?;
-        suffixes(alloc, report, eq0, eq1, tables, places)?;
+        report.shape = split.shape(places);
+        prefixes(alloc, report, split, (weights, places))?;
+        prefixes_to_lanes(alloc, report, split, (weights, places))?;
+        suffixes(alloc, report, split, places)?;
     }
     Ok(())
+}
+
+impl<F: Field, EF: ExtensionField<F>> Split<F, EF> {
+    /// The shape of a call with so many places.
+    fn shape(&self, places: usize) -> Shape {
+        Shape::Split {
+            rows: self.eq0.len(),
+            variables: self.eq1.num_variables(),
+            places,
+        }
+    }
 }
 
 /// Compares the dots of drawn entries of the base with the table, and with the table moved up by one
@@ -171,48 +214,76 @@ fn with_table<F: Field + Sample, EF: ExtensionField<F> + Sample>(
 fn base_dots<F: Field + Sample, EF: ExtensionField<F> + Sample>(
     alloc: Global,
     report: &mut Report,
-    eq0: &[EF],
-    eq1: &EqMaybePacked<F, EF>,
-    tables: (&[EF], &[EF]),
+    split: &Split<F, EF>,
 ) -> Result<(), AllocError>
-    requires { length tables.0.now ≡ length eq0.now * length eq1.now.weights }
+    requires { vec_len split.now.whole ≡ vec_len split.now.eq0 * length split.now.eq1.weights }
 {
-    let base: Vec<F> = elements(alloc, report, tables.0.len())?;
-    let sum = dot(alloc, tables.0, &base);
-    report.results("split::dot_base", Ok(dot_base(eq0, eq1, &base)), sum);
-    let sum = dot(alloc, tables.1, &base);
-    let answer = dot_base_shifted(eq0, eq1, &base);
+    let base: Vec<F> = elements(alloc, report, split.whole.len())?;
+    let sum = dot(alloc, &split.whole, &base);
+    let answer = dot_base(&split.eq0, &split.eq1, &base);
+    report.results("split::dot_base", Ok(answer), sum);
+    let sum = dot(alloc, &split.moved, &base);
+    let answer = dot_base_shifted(&split.eq0, &split.eq1, &base);
     report.results("split::dot_base_shifted", Ok(answer), sum);
     Ok(())
 }
 
 /// Compares the dots of drawn entries of the extension with the table, and the table, times a drawn
-/// scale, added to them.
+/// scale, added to them, in both storages.
 fn ext_sums<F: Field + Sample, EF: ExtensionField<F> + Sample>(
     alloc: Global,
     report: &mut Report,
-    eq0: &[EF],
-    eq1: &EqMaybePacked<F, EF>,
-    whole: &[EF],
+    split: &Split<F, EF>,
 ) -> Result<(), AllocError>
-    requires { length whole.now ≡ length eq0.now * length eq1.now.weights }
+    requires { vec_len split.now.whole ≡ vec_len split.now.eq0 * length split.now.eq1.weights }
 {
-    let before: Vec<EF> = elements(alloc, report, whole.len())?;
+    let before: Vec<EF> = elements(alloc, report, split.whole.len())?;
     let scale = element(report);
-    let sum = plain::dot(whole, &before);
-    report.value("split::dot_ext", dot_ext(eq0, eq1, &before), sum);
-    let mut out = Vec::from_slice(alloc, &before)?;
-    accumulate_into(eq0, eq1, &mut out, scale);
-    let sums = plus_scaled(alloc, &before, scale, whole);
-    report.lists("split::accumulate_into", Ok(out), sums);
-    if eq1.is_packed() {
-        let mut out = whole_packings::<F, EF>(alloc, &before)?;
-        report.value("split::dot_packed", dot_packed(eq0, eq1, &out), sum);
-        accumulate_into_packed(eq0, eq1, &mut out, scale);
-        let sums = plus_scaled(alloc, &before, scale, whole);
-        let answer = lanes::<F, EF>(alloc, &out);
-        report.lists("split::accumulate_into_packed", answer, sums);
+    if split.eq1.is_packed() {
+        added_to_lanes(alloc, report, split, &before, scale)?;
     }
+    added_to_entries(alloc, report, split, &before, scale)
+}
+
+/// Compares the dot of the entries with the table, and the table, times the scale, added to them.
+fn added_to_entries<F: Field, EF: ExtensionField<F>>(
+    alloc: Global,
+    report: &mut Report,
+    split: &Split<F, EF>,
+    before: &[EF],
+    scale: EF,
+) -> Result<(), AllocError>
+    requires { length before.now ≡ vec_len split.now.eq0 * length split.now.eq1.weights }
+{
+    let mut out = Vec::from_slice(alloc, before)?;
+    let sum = plain::dot(&split.whole, before);
+    let answer = dot_ext(&split.eq0, &split.eq1, before);
+    report.value("split::dot_ext", answer, sum);
+    accumulate_into(&split.eq0, &split.eq1, &mut out, scale);
+    let sums = plus_scaled(alloc, before, scale, &split.whole);
+    report.lists("split::accumulate_into", Ok(out), sums);
+    Ok(())
+}
+
+/// Compares the dot of the entries, in lanes, with the table, and the table, times the scale, added to them.
+fn added_to_lanes<F: Field, EF: ExtensionField<F>>(
+    alloc: Global,
+    report: &mut Report,
+    split: &Split<F, EF>,
+    before: &[EF],
+    scale: EF,
+) -> Result<(), AllocError>
+    requires packed { IsTrue split.now.eq1.packed }
+    requires size { length before.now ≡ vec_len split.now.eq0 * length split.now.eq1.weights }
+{
+    let mut out = whole_packings::<F, EF>(alloc, before)?;
+    let sum = plain::dot(&split.whole, before);
+    let answer = dot_packed(&split.eq0, &split.eq1, &out);
+    report.value("split::dot_packed", answer, sum);
+    accumulate_into_packed(&split.eq0, &split.eq1, &mut out, scale);
+    let sums = plus_scaled(alloc, before, scale, &split.whole);
+    let answer = lanes::<F, EF>(alloc, &out);
+    report.lists("split::accumulate_into_packed", answer, sums);
     Ok(())
 }
 
@@ -221,22 +292,20 @@ fn ext_sums<F: Field + Sample, EF: ExtensionField<F> + Sample>(
 fn prefixes<F: Field + Sample, EF: ExtensionField<F> + Sample>(
     alloc: Global,
     report: &mut Report,
-    eq0: &[EF],
-    eq1: &EqMaybePacked<F, EF>,
-    tables: (&[EF], &[EF]),
+    split: &Split<F, EF>,
     sizes: (usize, usize),
 ) -> Result<(), AllocError>
-    requires { sizes.0 ≡ length eq1.now.weights }
+    requires { sizes.0 ≡ length split.now.eq1.weights }
 {
-    let base: Vec<F> = blocks(alloc, report, eq0.len(), sizes.0, sizes.1)?;
+    let base: Vec<F> = blocks(alloc, report, split.eq0.len(), sizes.0, sizes.1)?;
     let before: Vec<EF> = elements(alloc, report, sizes.1)?;
     let mut out = Vec::from_slice(alloc, &before)?;
-    compress_prefix_into(eq0, eq1, &mut out, &base);
-    let sums = plus_rows(alloc, &before, (EF::ONE, tables.0), &base);
+    compress_prefix_into(&split.eq0, &split.eq1, &mut out, &base);
+    let sums = plus_rows(alloc, &before, (EF::ONE, &split.whole), &base);
     report.lists("split::compress_prefix_into", Ok(out), sums);
     let mut out = Vec::from_slice(alloc, &before)?;
-    compress_prefix_shifted_into(eq0, eq1, &mut out, &base);
-    let sums = plus_rows(alloc, &before, (EF::ONE, tables.1), &base);
+    compress_prefix_shifted_into(&split.eq0, &split.eq1, &mut out, &base);
+    let sums = plus_rows(alloc, &before, (EF::ONE, &split.moved), &base);
     report.lists("split::compress_prefix_shifted_into", Ok(out), sums);
     Ok(())
 }
@@ -245,18 +314,16 @@ fn prefixes<F: Field + Sample, EF: ExtensionField<F> + Sample>(
 fn prefixes_to_lanes<F: Field + Sample, EF: ExtensionField<F> + Sample>(
     alloc: Global,
     report: &mut Report,
-    eq0: &[EF],
-    eq1: &EqMaybePacked<F, EF>,
-    whole: &[EF],
+    split: &Split<F, EF>,
     sizes: (usize, usize),
 ) -> Result<(), AllocError>
-    requires { sizes.0 ≡ length eq1.now.weights }
+    requires { sizes.0 ≡ length split.now.eq1.weights }
 {
     let before: Vec<EF> = rows(alloc, report, sizes.1, F::Packing::WIDTH)?;
-    let base: Vec<F> = blocks(alloc, report, eq0.len(), sizes.0, before.len())?;
+    let base: Vec<F> = blocks(alloc, report, split.eq0.len(), sizes.0, before.len())?;
     let mut out = packed::<F, EF>(alloc, &before, sizes.1)?;
-    compress_prefix_to_packed_into(eq0, eq1, &mut out, &base);
-    let sums = plus_rows(alloc, &before, (EF::ONE, whole), &base);
+    compress_prefix_to_packed_into(&split.eq0, &split.eq1, &mut out, &base);
+    let sums = plus_rows(alloc, &before, (EF::ONE, &split.whole), &base);
     let answer = lanes::<F, EF>(alloc, &out);
     report.lists("split::compress_prefix_to_packed_into", answer, sums);
     Ok(())
@@ -267,24 +334,22 @@ fn prefixes_to_lanes<F: Field + Sample, EF: ExtensionField<F> + Sample>(
 fn suffixes<F: Field + Sample, EF: ExtensionField<F> + Sample>(
     alloc: Global,
     report: &mut Report,
-    eq0: &[EF],
-    eq1: &EqMaybePacked<F, EF>,
-    tables: (&[EF], &[EF]),
+    split: &Split<F, EF>,
     places: usize,
 ) -> Result<(), AllocError>
-    requires { length tables.0.now ≡ length eq0.now * length eq1.now.weights }
+    requires { vec_len split.now.whole ≡ vec_len split.now.eq0 * length split.now.eq1.weights }
 {
-    if eq0.is_empty() {
+    if split.eq0.is_empty() {
         return Ok(());
     }
-    let base: Vec<F> = rows(alloc, report, places, tables.0.len())?;
+    let base: Vec<F> = rows(alloc, report, places, split.whole.len())?;
     let mut out = filled(alloc, EF::TWO, places)?;
-    compress_suffix_into(eq0, eq1, &mut out, &base);
-    let sums = compressed_suffix(alloc, tables.0, &base);
+    compress_suffix_into(&split.eq0, &split.eq1, &mut out, &base);
+    let sums = compressed_suffix(alloc, &split.whole, &base);
     report.lists("split::compress_suffix_into", Ok(out), sums);
     let mut out = filled(alloc, EF::TWO, places)?;
-    compress_suffix_shifted_into(eq0, eq1, &mut out, &base);
-    let sums = compressed_suffix(alloc, tables.1, &base);
+    compress_suffix_shifted_into(&split.eq0, &split.eq1, &mut out, &base);
+    let sums = compressed_suffix(alloc, &split.moved, &base);
     report.lists("split::compress_suffix_shifted_into", Ok(out), sums);
     Ok(())
 }

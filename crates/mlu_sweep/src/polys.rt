@@ -3,6 +3,7 @@ ghost use Rattle.std.specs.Prelude.{◌≡◌, ◌*◌, ◌≤◌, ◌^◌, leng
 ghost use Rattle.multilinear_util.specs.Storage.{scalars};
 
 use crate::definitions::{Compressed, Sums, next_by, table};
+use crate::draws::Polynomials;
 use crate::lanes::{in_lanes, unpacked, values};
 use crate::report::Report;
 use mlu_ring::{ExtensionField, Field, PackedValue, PrimeCharacteristicRing};
@@ -18,18 +19,33 @@ pub fn evaluate<F: Field, EF: ExtensionField<F>>(
     alloc: Global,
     report: &mut Report,
     point: &Point<EF>,
-    (base, images, ext): (&Poly<F>, &[EF], &Poly<EF>),
+    drawn: &Polynomials<F, EF>,
 ) -> Result<(), AllocError> {
     let variables = point.num_variables();
-    if base.num_variables() != variables || ext.num_variables() != variables {
+    if drawn.base.num_variables() != variables || drawn.ext.num_variables() != variables {
         return Err(AllocError);
     }
     let weights = table(alloc, point.as_slice(), EF::ONE)?;
-    let constant = (variables == 0).then_some(plain::last(ext.as_slice()));
+    with_weights(alloc, report, point, &weights, drawn)
+}
+
+/// Compares the values at the point, whose table has these weights.
+fn with_weights<F: Field, EF: ExtensionField<F>>(
+    alloc: Global,
+    report: &mut Report,
+    point: &Point<EF>,
+    weights: &[EF],
+    drawn: &Polynomials<F, EF>,
+) -> Result<(), AllocError>
+    requires base { length drawn.now.base ≡ 2 ^ length point.now }
+    requires ext { length drawn.now.ext ≡ 2 ^ length point.now }
+{
+    let sums = Sums::new(alloc, weights, &drawn.images)?;
+    over_the_base(alloc, report, point, sums, &drawn.base);
+    let ext = &drawn.ext;
+    let constant = (point.num_variables() == 0).then_some(plain::last(ext.as_slice()));
     report.agrees("Poly::as_constant", ext.as_constant() == constant);
-    let sums = Sums::new(alloc, &weights, images)?;
-    over_the_base(alloc, report, point, sums, base);
-    let value = plain::dot(&weights, ext.as_slice());
+    let value = plain::dot(weights, ext.as_slice());
     let answer = ext.eval_ext::<F>(alloc, point);
     report.results("Poly::eval_ext", answer, Ok(value));
     in_each_storage::<F, EF>(alloc, report, point, ext, value)
@@ -66,19 +82,46 @@ fn in_each_storage<F: Field, EF: ExtensionField<F>>(
 ) -> Result<(), AllocError>
     requires { length ext.now ≡ 2 ^ length point.now }
 {
-    let scalars = PolyMaybePacked::from(ext.try_clone(alloc)?);
-    stored::<F, EF>(alloc, report, point, &scalars, ext, value)?;
+    in_scalars::<F, EF>(alloc, report, point, ext, value)?;
     if ext.num_evals() < F::Packing::WIDTH {
         return Ok(());
     }
+    report.form = " of lanes";
+    in_packings::<F, EF>(alloc, report, point, ext, value)?;
+    report.form = "";
+    unpack_into::<F, EF>(alloc, report, ext)
+}
+
+/// Compares a polynomial that is stored as scalars.
+fn in_scalars<F: Field, EF: ExtensionField<F>>(
+    alloc: Global,
+    report: &mut Report,
+    point: &Point<EF>,
+    ext: &Poly<EF>,
+    value: EF,
+) -> Result<(), AllocError>
+    requires { length ext.now ≡ 2 ^ length point.now }
+{
+    let scalars = PolyMaybePacked::from(ext.try_clone(alloc)?);
+    stored::<F, EF>(alloc, report, point, &scalars, ext, value)
+}
+
+/// Compares a polynomial in lanes, and stored so.
+fn in_packings<F: Field, EF: ExtensionField<F>>(
+    alloc: Global,
+    report: &mut Report,
+    point: &Point<EF>,
+    ext: &Poly<EF>,
+    value: EF,
+) -> Result<(), AllocError>
+    requires point { length ext.now ≡ 2 ^ length point.now }
+    requires packing { F.Packing.WIDTH ≤ length ext.now }
+{
     let lanes = in_lanes::<F, EF>(alloc, ext)?;
     let answer = lanes.eval_packed::<F, EF>(alloc, point);
     report.results("Poly::eval_packed", answer, Ok(value));
-    report.form = " of lanes";
     let packed = PolyMaybePacked::Packed(lanes);
-    stored::<F, EF>(alloc, report, point, &packed, ext, value)?;
-    report.form = "";
-    unpack_into::<F, EF>(alloc, report, ext)
+    stored::<F, EF>(alloc, report, point, &packed, ext, value)
 }
 
 /// Compares what is stored with the polynomial, and its value at the point. Fails where the point has
@@ -205,10 +248,10 @@ pub fn tabulate_lanes<F: Field, EF: ExtensionField<F>>(
 pub fn compress<F: Field, EF: ExtensionField<F>>(
     alloc: Global,
     report: &mut Report,
-    (point, scale): (&Point<EF>, EF),
     base: &Poly<F>,
     defined: &Compressed<EF>,
 ) -> Result<(), AllocError> {
+    let (point, scale) = (&defined.point, defined.scale);
     if point.num_variables() >= 32 || 1 << point.num_variables() > base.num_evals() {
         return Err(AllocError);
     }

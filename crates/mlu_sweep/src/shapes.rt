@@ -1,13 +1,11 @@
 //! Every shape up to a number of variables, over any field and extension of it.
 
 use crate::definitions::Compressed;
-use crate::draws::{element, elements, polynomial};
+use crate::draws::{Polynomials, element, elements};
 use crate::report::{Difference, Report, Shape};
 use crate::{batches, folds, halves, kernels, points, polys, slices, splits};
 use mlu_ring::{ExtensionField, Field, Sample, SelfAlgebra};
-use mlu_test_support::plain;
 use multilinear_util::point::Point;
-use multilinear_util::poly::Poly;
 use std::alloc::{AllocError, Global};
 
 /// The most points of a batch.
@@ -40,54 +38,71 @@ fn polynomials<F: Field + Sample, EF: ExtensionField<F> + SelfAlgebra + Sample>(
     report: &mut Report,
     variables: usize,
 ) -> Result<(), AllocError> {
-    let base: Poly<F> = polynomial(alloc, report, variables)?;
-    let images: Vec<EF> = plain::images(alloc, base.as_slice())?;
-    let ext: Poly<EF> = polynomial(alloc, report, variables)?;
-    let polys = (&base, images.as_slice(), &ext);
+    let drawn = Polynomials::<F, EF>::draw(alloc, report, variables)?;
     report.shape = Shape::Polynomial {
         variables,
         coordinates: 1,
     };
-    fold(alloc, report, polys);
+    fold(alloc, report, &drawn);
+    at_points(alloc, report, &drawn)
+}
+
+/// Compares the folds of the polynomials at drawn elements, those in place at elements of both fields.
+fn fold<F: Field + Sample, EF: ExtensionField<F> + SelfAlgebra + Sample>(
+    alloc: Global,
+    report: &mut Report,
+    drawn: &Polynomials<F, EF>,
+) {
+    let r: EF = element(report);
+    folds::into_the_extension(alloc, report, &drawn.base, &drawn.images, r);
+    folds::in_place::<EF, EF>(alloc, report, &drawn.ext, r);
+    report.form = " at the base";
+    let r: F = element(report);
+    folds::in_place::<F, EF>(alloc, report, &drawn.ext, r);
+    report.form = "";
+}
+
+/// Compares the calls on the polynomials at points of as many coordinates as they have variables, and of
+/// fewer.
+fn at_points<F: Field, EF: ExtensionField<F> + Sample>(
+    alloc: Global,
+    report: &mut Report,
+    drawn: &Polynomials<F, EF>,
+) -> Result<(), AllocError> {
+    let variables = drawn.base.num_variables();
     for coordinates in 0..=variables {
         report.shape = Shape::Polynomial {
             variables,
             coordinates,
         };
-        at_a_point(alloc, report, coordinates, polys)?;
+        at_a_point(alloc, report, coordinates, drawn)?;
     }
     Ok(())
 }
 
-/// Compares the folds of polynomials at drawn elements, those in place at elements of both fields.
-fn fold<F: Field + Sample, EF: ExtensionField<F> + SelfAlgebra + Sample>(
-    alloc: Global,
-    report: &mut Report,
-    polys: (&Poly<F>, &[EF], &Poly<EF>),
-) {
-    let r: EF = element(report);
-    folds::into_the_extension(alloc, report, polys.0, polys.1, r);
-    folds::in_place::<EF, EF>(alloc, report, polys.2, r);
-    report.form = " at the base";
-    let r: F = element(report);
-    folds::in_place::<F, EF>(alloc, report, polys.2, r);
-    report.form = "";
-}
-
-/// Compares the calls on polynomials at a drawn point of so many coordinates, with a drawn scale.
+/// Compares the calls on the polynomials at a drawn point of so many coordinates, with a drawn scale.
 fn at_a_point<F: Field, EF: ExtensionField<F> + Sample>(
     alloc: Global,
     report: &mut Report,
     coordinates: usize,
-    polys: (&Poly<F>, &[EF], &Poly<EF>),
+    drawn: &Polynomials<F, EF>,
 ) -> Result<(), AllocError> {
     let point = Point::new(elements(alloc, report, coordinates)?);
-    let scale = element(report);
-    let defined = Compressed::new(alloc, point.as_slice(), scale, polys.1)?;
-    splits::compare(alloc, report, (&point, scale), polys, &defined)?;
-    polys::compress(alloc, report, (&point, scale), polys.0, &defined)?;
-    if polys.0.num_variables() == coordinates {
-        polys::evaluate(alloc, report, &point, polys)?;
+    let defined = Compressed::new(alloc, point, element(report), &drawn.images)?;
+    compare_at(alloc, report, drawn, &defined)
+}
+
+/// Compares the calls on the polynomials with what the point leaves of the one over the base.
+fn compare_at<F: Field, EF: ExtensionField<F>>(
+    alloc: Global,
+    report: &mut Report,
+    drawn: &Polynomials<F, EF>,
+    defined: &Compressed<EF>,
+) -> Result<(), AllocError> {
+    splits::compare(alloc, report, drawn, defined)?;
+    polys::compress(alloc, report, &drawn.base, defined)?;
+    if drawn.base.num_variables() == defined.point.num_variables() {
+        polys::evaluate(alloc, report, &defined.point, drawn)?;
     }
     Ok(())
 }

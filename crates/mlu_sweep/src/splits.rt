@@ -1,8 +1,9 @@
 //! Split tables, made both ways, beside the table of their point.
-ghost use Rattle.std.specs.Prelude.{◌≡◌, ◌*◌, ◌^◌, ◌<◌, ◌≤◌, length, vec_len, IfOk};
+ghost use Rattle.std.specs.Prelude.{◌≡◌, ◌*◌, ◌≤◌, length, vec_len, IfOk};
 ghost use Rattle.multilinear_util.specs.Split.{split_entries};
 
-use crate::definitions::{Compressed, Sums, plus_scaled, table};
+use crate::definitions::{Compressed, Sums, plus_last, plus_scaled, table};
+use crate::draws::Polynomials;
 use crate::halves::step;
 use crate::lanes::{in_lanes, unpacked};
 use crate::report::Report;
@@ -21,24 +22,20 @@ const PARTS: [usize; 6] = [1, 2, 3, 4, 5, usize::MAX];
 pub fn compare<F: Field, EF: ExtensionField<F>>(
     alloc: Global,
     report: &mut Report,
-    (point, scale): (&Point<EF>, EF),
-    polys: (&Poly<F>, &[EF], &Poly<EF>),
+    drawn: &Polynomials<F, EF>,
     defined: &Compressed<EF>,
 ) -> Result<(), AllocError> {
-    let entries = defined.weights.len();
-    if point.num_variables() >= 32
-        || entries != 1 << point.num_variables()
-        || entries > polys.0.num_evals()
-    {
+    let (variables, entries) = (defined.point.num_variables(), defined.weights.len());
+    if variables >= 32 || entries != 1 << variables || entries > drawn.base.num_evals() {
         return Err(AllocError);
     }
     report.form = " (new_unpacked)";
-    let split = SplitEq::<F, EF>::new_unpacked(alloc, point, scale);
-    compare_made(alloc, report, split, false, point, polys, defined)?;
+    let split = SplitEq::<F, EF>::new_unpacked(alloc, &defined.point, defined.scale);
+    compare_made(alloc, report, split, false, drawn, defined)?;
     report.form = " (new_packed)";
-    let split = SplitEq::<F, EF>::new_packed(alloc, point, scale);
-    let fills_a_packing = point.num_variables().div_ceil(2) >= F::Packing::LOG_WIDTH;
-    compare_made(alloc, report, split, fills_a_packing, point, polys, defined)?;
+    let split = SplitEq::<F, EF>::new_packed(alloc, &defined.point, defined.scale);
+    let fills_a_packing = variables.div_ceil(2) >= F::Packing::LOG_WIDTH;
+    compare_made(alloc, report, split, fills_a_packing, drawn, defined)?;
     report.form = "";
     Ok(())
 }
@@ -49,23 +46,35 @@ fn compare_made<F: Field, EF: ExtensionField<F>>(
     report: &mut Report,
     split: Result<SplitEq<F, EF>, AllocError>,
     is_packed: bool,
-    point: &Point<EF>,
-    polys: (&Poly<F>, &[EF], &Poly<EF>),
+    drawn: &Polynomials<F, EF>,
     defined: &Compressed<EF>,
 ) -> Result<(), AllocError>
-    requires split { IfOk split (λ split. length (split_entries EF.ring split) ≡ 2 ^ length point.now) }
-    requires entries { vec_len defined.now.weights ≡ 2 ^ length point.now }
-    requires few { vec_len defined.now.weights ≤ length polys.0.now }
+    requires split { IfOk split (λ split. length (split_entries EF.ring split) ≡ vec_len defined.now.weights) }
+    requires few { vec_len defined.now.weights ≤ length drawn.now.base }
 {
     let split = split?;
-    let first_half = split.eq0().num_variables() == point.num_variables() / 2;
-    report.agrees("SplitEq::eq0", first_half);
     report.agrees("SplitEq::eq1", split.eq1().is_packed() == is_packed);
-    step_in_second_half(alloc, report, &split, point)?;
-    compare_entries(alloc, report, &split, polys, &defined.weights)?;
-    compress(alloc, report, &split, polys.0, defined)?;
-    compress_to_lanes(alloc, report, &split, polys.0, defined);
-    compress_moved(alloc, report, &split, polys.0, defined);
+    compare_split(alloc, report, &split, drawn, defined)
+}
+
+/// Compares a split table of the point.
+fn compare_split<F: Field, EF: ExtensionField<F>>(
+    alloc: Global,
+    report: &mut Report,
+    split: &SplitEq<F, EF>,
+    drawn: &Polynomials<F, EF>,
+    defined: &Compressed<EF>,
+) -> Result<(), AllocError>
+    requires entries { length (split_entries EF.ring split.now) ≡ vec_len defined.now.weights }
+    requires few { vec_len defined.now.weights ≤ length drawn.now.base }
+{
+    let first_half = split.eq0().num_variables() == defined.point.num_variables() / 2;
+    report.agrees("SplitEq::eq0", first_half);
+    step_in_second_half(alloc, report, split, &defined.point)?;
+    compare_entries(alloc, report, split, drawn, &defined.weights)?;
+    compress(alloc, report, split, &drawn.base, defined)?;
+    compress_to_lanes(alloc, report, split, &drawn.base, defined);
+    compress_moved(alloc, report, split, &drawn.base, defined);
     Ok(())
 }
 
@@ -74,7 +83,7 @@ fn compare_entries<F: Field, EF: ExtensionField<F>>(
     alloc: Global,
     report: &mut Report,
     split: &SplitEq<F, EF>,
-    polys: (&Poly<F>, &[EF], &Poly<EF>),
+    drawn: &Polynomials<F, EF>,
     entries: &[EF],
 ) -> Result<(), AllocError>
     requires { length (split_entries EF.ring split.now) ≡ length entries.now }
@@ -82,12 +91,12 @@ fn compare_entries<F: Field, EF: ExtensionField<F>>(
     let last = plain::last(entries);
     report.value("SplitEq::last_scalar", split.last_scalar(), last);
     report.table("SplitEq::materialize", split.materialize(alloc), entries);
-    if polys.0.num_evals() == entries.len() {
-        evaluate(alloc, report, split, entries, polys.0, polys.1)?;
+    if drawn.base.num_evals() == entries.len() {
+        evaluate(alloc, report, split, entries, drawn)?;
     }
-    if polys.2.num_evals() == entries.len() {
-        accumulate(alloc, report, split, entries, polys.2)?;
-        by_lanes(alloc, report, split, entries, polys.2)?;
+    if drawn.ext.num_evals() == entries.len() {
+        accumulate(alloc, report, split, entries, &drawn.ext);
+        by_lanes(alloc, report, split, entries, &drawn.ext)?;
     }
     Ok(())
 }
@@ -109,30 +118,47 @@ fn step_in_second_half<F: Field, EF: ExtensionField<F>>(
     step(alloc, report, split.eq1(), &weights, factors)
 }
 
-/// Compares the values of a polynomial over the base. That of the next rows is also what the moved table
-/// leaves, one entry, and the last value times the last entry.
+/// Compares the values of a polynomial over the base.
 fn evaluate<F: Field, EF: ExtensionField<F>>(
     alloc: Global,
     report: &mut Report,
     split: &SplitEq<F, EF>,
     entries: &[EF],
-    base: &Poly<F>,
-    images: &[EF],
+    drawn: &Polynomials<F, EF>,
 ) -> Result<(), AllocError>
-    requires { length base.now ≡ length (split_entries EF.ring split.now) }
+    requires { length drawn.now.base ≡ length (split_entries EF.ring split.now) }
 {
-    let defined = Sums::new(alloc, entries, images)?;
-    let (repeated, wrapped) = (defined.repeated, defined.wrapped);
+    let defined = Sums::new(alloc, entries, &drawn.images)?;
+    let base = &drawn.base;
     let value = split.eval_base(base.as_view());
     report.value("SplitEq::eval_base", value, defined.value);
     let value = split.eval_next_base(base.as_view());
-    report.value("SplitEq::eval_next_base", value, repeated);
+    report.value("SplitEq::eval_next_base", value, defined.repeated);
     let value = split.eval_next_base_by(Successor::RepeatLast, base.as_view());
-    report.value("SplitEq::eval_next_base_by RepeatLast", value, repeated);
+    report.value(
+        "SplitEq::eval_next_base_by RepeatLast",
+        value,
+        defined.repeated,
+    );
     let value = split.eval_next_base_by(Successor::Wrap, base.as_view());
-    report.value("SplitEq::eval_next_base_by Wrap", value, wrapped);
+    report.value("SplitEq::eval_next_base_by Wrap", value, defined.wrapped);
+    in_two_parts(alloc, report, split, drawn, defined.repeated)
+}
+
+/// Compares the value of the next rows with what the moved table leaves, one entry, and the last value times
+/// the last entry.
+fn in_two_parts<F: Field, EF: ExtensionField<F>>(
+    alloc: Global,
+    report: &mut Report,
+    split: &SplitEq<F, EF>,
+    drawn: &Polynomials<F, EF>,
+    repeated: EF,
+) -> Result<(), AllocError>
+    requires { length (split_entries EF.ring split.now) ≤ length drawn.now.base }
+{
+    let base = &drawn.base;
     let moved = split.compress_prefix_shifted(alloc, base.as_view())?;
-    let value = plain::last(moved.as_slice()) + split.last_scalar() * plain::last(images);
+    let value = plus_last(moved.as_slice(), split.last_scalar(), &drawn.images);
     report.value("SplitEq::eval_next_base in two parts", value, repeated);
     Ok(())
 }
@@ -145,21 +171,31 @@ fn accumulate<F: Field, EF: ExtensionField<F>>(
     split: &SplitEq<F, EF>,
     entries: &[EF],
     ext: &Poly<EF>,
-) -> Result<(), AllocError>
+)
     requires { length ext.now ≡ length (split_entries EF.ring split.now) }
 {
     let value = plain::dot(entries, ext.as_slice());
     report.value("SplitEq::eval_ext", split.eval_ext(ext.as_view()), value);
-    let mut once = ext.try_clone(alloc)?;
-    split.accumulate_into(once.as_mut_slice(), None);
     let sums = plus_scaled(alloc, ext.as_slice(), EF::ONE, entries);
-    report.lists("SplitEq::accumulate_into", Ok(once.into_evals()), sums);
-    let mut twice = ext.try_clone(alloc)?;
-    split.accumulate_into(twice.as_mut_slice(), Some(EF::TWO));
+    let answer = accumulated(alloc, split, ext, None);
+    report.lists("SplitEq::accumulate_into", answer, sums);
     let sums = plus_scaled(alloc, ext.as_slice(), EF::TWO, entries);
-    let answer = Ok(twice.into_evals());
+    let answer = accumulated(alloc, split, ext, Some(EF::TWO));
     report.lists("SplitEq::accumulate_into twice", answer, sums);
-    Ok(())
+}
+
+/// The values of the polynomial with the table added to them, times the scale.
+fn accumulated<F: Field, EF: ExtensionField<F>>(
+    alloc: Global,
+    split: &SplitEq<F, EF>,
+    ext: &Poly<EF>,
+    scale: Option<EF>,
+) -> Result<Vec<EF>, AllocError>
+    requires { length ext.now ≡ length (split_entries EF.ring split.now) }
+{
+    let mut sums = ext.try_clone(alloc)?;
+    split.accumulate_into(sums.as_mut_slice(), scale);
+    Ok(sums.into_evals())
 }
 
 /// Compares the value of lanes, and the table added to lanes, where there are values for one packing.
@@ -175,15 +211,26 @@ fn by_lanes<F: Field, EF: ExtensionField<F>>(
     if ext.num_evals() < F::Packing::WIDTH {
         return Ok(());
     }
+    let lanes = in_lanes::<F, EF>(alloc, ext)?;
     let value = plain::dot(entries, ext.as_slice());
-    let mut lanes = in_lanes::<F, EF>(alloc, ext)?;
     let answer = split.eval_packed(alloc, lanes.as_view());
     report.results("SplitEq::eval_packed", answer, Ok(value));
-    split.accumulate_into_packed(alloc, lanes.as_mut_slice(), Some(EF::TWO))?;
     let sums = plus_scaled(alloc, ext.as_slice(), EF::TWO, entries);
-    let answer = unpacked::<F, EF>(alloc, Ok(lanes));
+    let answer = accumulated_in_lanes(alloc, split, lanes);
     report.lists("SplitEq::accumulate_into_packed", answer, sums);
     Ok(())
+}
+
+/// The lanes with the table added to them, times two.
+fn accumulated_in_lanes<F: Field, EF: ExtensionField<F>>(
+    alloc: Global,
+    split: &SplitEq<F, EF>,
+    mut lanes: Poly<EF::ExtensionPacking>,
+) -> Result<Vec<EF>, AllocError>
+    requires { length lanes * F.Packing.WIDTH ≡ length (split_entries EF.ring split.now) }
+{
+    split.accumulate_into_packed(alloc, lanes.as_mut_slice(), Some(EF::TWO))?;
+    unpacked::<F, EF>(alloc, Ok(lanes))
 }
 
 /// Compares the compressions.

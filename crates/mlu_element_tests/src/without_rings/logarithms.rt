@@ -5,9 +5,7 @@ use mlu_ring::{log2_ceil_usize, log2_strict_usize};
 fn logarithms(rt: HostRuntime) {
     assert_eq!(rt; log2_strict_usize(1), 0);
     assert_eq!(rt; log2_strict_usize(1024), 10);
-    assert_eq!(rt; log2_ceil_usize(0), 0);
-    assert_eq!(rt; log2_ceil_usize(1), 0);
-    assert_eq!(rt; log2_ceil_usize(5), 3);
-    assert_eq!(rt; log2_ceil_usize(8), 3);
-    assert_eq!(rt; log2_ceil_usize(usize::MAX), 64);
+    for (number, logarithm) in [(0, 0), (1, 0), (5, 3), (8, 3), (usize::MAX, 64)] {
+        assert_eq!(rt; log2_ceil_usize(number), logarithm);
+    }
 }

@@ -3,11 +3,22 @@ ghost use Rattle.std.specs.Prelude.{◌<◌, length};
 
 use crate::rings::{Word, residues_in_quartics, residues_in_words};
 use mlu_ring::{ExtensionField, MapFrom};
-use mlu_test_support::numbers::element;
+use mlu_test_support::numbers::{element, elements};
 use mlu_test_tables::point;
 use multilinear_util::split_eq::SplitEq;
 use std::alloc::{AllocError, Global};
 use std::test::Fail;
+
+/// Whether 5 times the weights of the point have the images of these numbers.
+pub fn are_numbers<R: ExtensionField<R>, S: ExtensionField<S> + MapFrom<R>>(
+    alloc: Global,
+    coordinates: &[i32],
+    numbers: &[i32],
+) -> Result<bool, AllocError>
+    requires { length coordinates.now < 64 }
+{
+    are::<R, S>(alloc, coordinates, &elements::<S>(alloc, numbers)?)
+}
 
 /// Whether 5 times the weights of the point, in either storage, have these images.
 pub fn are<R: ExtensionField<R>, S: ExtensionField<S> + MapFrom<R>>(
@@ -32,7 +43,16 @@ fn has_images<R: ExtensionField<R>, S: ExtensionField<S> + MapFrom<R>>(
     split: Result<SplitEq<R, R>, AllocError>,
     images: &[S],
 ) -> Result<bool, AllocError> {
-    is_table(alloc, &split?.to_field::<S>(alloc)?, images)
+    gives_table(alloc, split?.to_field::<S>(alloc), images)
+}
+
+/// Whether the table that a call makes has these entries, as scalars.
+fn gives_table<S: ExtensionField<S>>(
+    alloc: Global,
+    split: Result<SplitEq<S, S>, AllocError>,
+    entries: &[S],
+) -> Result<bool, AllocError> {
+    is_table(alloc, &split?, entries)
 }
 
 /// Whether the table has these entries, as scalars.

@@ -1,7 +1,7 @@
 //! Sizes, views, copies and draws; and a polynomial as the function of its points.
 
 use super::Row;
-use crate::rings::Row::{Constants, Polynomials};
+use crate::rings::Row::Polynomials;
 use crate::rings::{quartics, residues};
 use mlu_eq::laws::unique;
 use mlu_ring::{Additive, AffineInEach, PrimeCharacteristicRing, Sample};
@@ -16,17 +16,21 @@ use std::test::Fail;
 pub fn owns<R: Additive>(alloc: Global) -> Result<bool, AllocError> {
     let poly = table::<R>(alloc, &[1, 2, 3, 4])?;
     let copy = poly.try_clone(alloc)?;
-    Ok(
-        poly.num_evals() == 4
-            && poly.num_variables() == 2
-            && poly.as_constant().is_none()
-            && poly.as_slice().last() == Some(&element(4))
-            && poly.iter().count() == 4
-            && copy == poly
-            && copy.as_view() == poly.as_view()
-            && are_added(&poly, copy)
-            && poly.into_evals().len() == 4,
-    )
+    Ok(has_sizes(&poly) && is_copied(&poly, copy) && poly.into_evals().len() == 4)
+}
+
+/// Whether the polynomial has two variables, and 4 as its last entry.
+fn has_sizes<R: Additive>(poly: &Poly<R>) -> bool {
+    poly.num_evals() == 4
+        && poly.num_variables() == 2
+        && poly.as_constant().is_none()
+        && poly.as_slice().last() == Some(&element(4))
+        && poly.iter().count() == 4
+}
+
+/// Whether the copy equals the polynomial, as its view does, and the entries of both are what they are to be.
+fn is_copied<R: Additive>(poly: &Poly<R>, copy: Poly<R>) -> bool {
+    copy == *poly && copy.as_view() == poly.as_view() && are_added(poly, copy)
 }
 
 /// Whether the entries of both, lent and given, add up to 20.
@@ -54,8 +58,8 @@ pub fn is_constant<R: PrimeCharacteristicRing>(alloc: Global) -> Result<bool, Al
 
 #[test]
 fn constants(rt: HostRuntime) -> Result<(), Fail> {
-    assert!(rt; residues(rt.alloc(), Constants)?);
-    assert!(rt; quartics(rt.alloc(), Constants)?);
+    assert!(rt; residues(rt.alloc(), Polynomials(Row::Constants))?);
+    assert!(rt; quartics(rt.alloc(), Polynomials(Row::Constants))?);
     Ok(())
 }
 
@@ -67,17 +71,18 @@ fn entries_of<F: Copy>(poly: &Poly<F>) -> &[F] {
 /// Whether views show what is viewed.
 pub fn is_viewed<R: Additive>(alloc: Global) -> Result<bool, AllocError> {
     let poly = table::<R>(alloc, &[1, 2])?;
-    let view = PolyView::new(poly.as_slice());
+    Ok(shows(PolyView::new(poly.as_slice()), &poly) && entries_of(&poly).len() == 2)
+}
+
+/// Whether the view is one of the polynomial, of one variable.
+fn shows<R: Additive>(view: PolyView<'_, R>, poly: &Poly<R>) -> bool {
     let copy = view;
-    Ok(
-        copy == poly.as_view()
-            && view.num_evals() == 2
-            && view.num_variables() == 1
-            && view.as_constant().is_none()
-            && view.iter().count() == 2
-            && view.as_slice().len() == 2
-            && entries_of(&poly).len() == 2,
-    )
+    copy == poly.as_view()
+        && view.num_evals() == 2
+        && view.num_variables() == 1
+        && view.as_constant().is_none()
+        && view.iter().count() == 2
+        && view.as_slice().len() == 2
 }
 
 #[test]
@@ -92,13 +97,17 @@ pub fn draws_two<R: PartialEq + Copy + Sample>(alloc: Global) -> Result<bool, Al
     let mut rng = Pcg32::new(1, 54);
     let first = Poly::<R>::rand(alloc, &mut rng, 3)?;
     let second = Poly::<R>::rand(alloc, &mut rng, 3)?;
-    let mut again = Pcg32::new(1, 54);
-    for value in first.as_slice() {
-        if *value != R::sample(&mut again) {
-            return Ok(false);
+    Ok(first.num_evals() == 8 && first != second && are_drawn(first.as_slice(), Pcg32::new(1, 54)))
+}
+
+/// Whether the generator gives these values, in order.
+fn are_drawn<R: PartialEq + Copy + Sample>(values: &[R], mut rng: Pcg32) -> bool {
+    for value in values {
+        if *value != R::sample(&mut rng) {
+            return false;
         }
     }
-    Ok(first.num_evals() == 8 && first != second)
+    true
 }
 
 #[test]

@@ -1,8 +1,8 @@
 //! What `{:?}` prints of polynomials and split tables of residues, in packings of four lanes.
+ghost use Rattle.std.specs.Prelude.{◌≡◌, length};
 
-use super::Row;
-use crate::printed::{VALUES, WEIGHTS, is_printed};
-use crate::rings::Row::Polynomials;
+use crate::printed::{Row, is_printed};
+use crate::rings::Row::Printed;
 use crate::rings::residues;
 use mlu_ring::{ExtensionField, PackedValue};
 use mlu_test_support::numbers::element;
@@ -13,7 +13,14 @@ use std::alloc::{AllocError, Global};
 use std::fmt::Debug;
 use std::test::Fail;
 
-/// Whether a view of the polynomial, and its scalar storage, print as they must.
+/// Whether a view of the polynomial prints as it must.
+fn prints_view<R: Copy + Debug>(alloc: Global, poly: &Poly<R>) -> Result<bool, AllocError> {
+    let text = "PolyView { evals: [BabyBear { value: 3 }, BabyBear { value: 4 }, \
+        BabyBear { value: 5 }, BabyBear { value: 6 }] }";
+    is_printed(alloc, &poly.as_view(), text)
+}
+
+/// Whether the scalar storage prints as it must.
 fn prints_scalars<R: ExtensionField<R> + Debug>(
     alloc: Global,
     poly: Poly<R>,
@@ -21,31 +28,48 @@ fn prints_scalars<R: ExtensionField<R> + Debug>(
 where
     R::ExtensionPacking: Debug,
 {
-    let view = ("PolyView { evals: ", VALUES, " }");
-    let is_view = is_printed(alloc, &poly.as_view(), view)?;
     let scalar = PolyMaybePacked::<R, R>::Scalar(poly);
-    let scalars = ("Scalar(Poly { evals: ", VALUES, " })");
-    Ok(is_view && is_printed(alloc, &scalar, scalars)?)
+    let text = "Scalar(Poly { evals: [BabyBear { value: 3 }, BabyBear { value: 4 }, \
+        BabyBear { value: 5 }, BabyBear { value: 6 }] })";
+    is_printed(alloc, &scalar, text)
 }
 
 /// Whether the packed storage prints as it must.
 fn prints_lanes<R: ExtensionField<R> + Debug>(
     alloc: Global,
-    packed: Poly<R::ExtensionPacking>,
+    poly: &Poly<R>,
 ) -> Result<bool, AllocError>
 where
     R::ExtensionPacking: Debug,
+    requires { length poly.now ≡ 4 }
 {
-    let packed = PolyMaybePacked::<R, R>::Packed(packed);
-    let lanes = ("Packed(Poly { evals: [Lanes { values: ", VALUES, " }] })");
-    is_printed(alloc, &packed, lanes)
+    if R::Packing::WIDTH != 4 {
+        return Ok(false);
+    }
+    let packed = PolyMaybePacked::<R, R>::Packed(poly.pack::<R, R>(alloc)?);
+    let text =
+        "Packed(Poly { evals: [Lanes { values: [BabyBear { value: 3 }, BabyBear { value: 4 }, \
+        BabyBear { value: 5 }, BabyBear { value: 6 }] }] })";
+    is_printed(alloc, &packed, text)
+}
+
+/// Whether 3, 4, 5, 6 print as they must, in a view and in both storages.
+fn prints_values<R: ExtensionField<R> + Debug>(alloc: Global) -> Result<bool, AllocError>
+where
+    R::ExtensionPacking: Debug,
+{
+    let poly = table::<R>(alloc, &[3, 4, 5, 6])?;
+    if !prints_view(alloc, &poly)? || !prints_lanes::<R>(alloc, &poly)? {
+        return Ok(false);
+    }
+    prints_scalars::<R>(alloc, poly)
 }
 
 /// Whether the split table that a call makes prints as it must.
 fn prints_split<R: ExtensionField<R> + Debug>(
     alloc: Global,
     split: Result<SplitEq<R, R>, AllocError>,
-    text: (&str, &str, &str),
+    text: &str,
 ) -> Result<bool, AllocError>
 where
     R::ExtensionPacking: Debug,
@@ -60,15 +84,17 @@ where
 {
     let point = point::<R>(alloc, &[0, 1, 1])?;
     let scalars = "SplitEq { eq0: Poly { evals: [BabyBear { value: 3 }, BabyBear { value: 0 }] }, \
-        eq1: EqMaybePacked { weights: Scalar(Table { values: ";
+        eq1: EqMaybePacked { weights: Scalar(Table { values: [BabyBear { value: 0 }, \
+        BabyBear { value: 0 }, BabyBear { value: 0 }, BabyBear { value: 1 }] }) } }";
     let lanes = "SplitEq { eq0: Poly { evals: [BabyBear { value: 3 }, BabyBear { value: 0 }] }, \
-        eq1: EqMaybePacked { weights: Packed(Table { values: [Lanes { values: ";
+        eq1: EqMaybePacked { weights: Packed(Table { values: [Lanes { values: [BabyBear { value: 0 }, \
+        BabyBear { value: 0 }, BabyBear { value: 0 }, BabyBear { value: 1 }] }] }) } }";
     let unpacked = SplitEq::<R, R>::new_unpacked(alloc, &point, element(3));
-    if !prints_split(alloc, unpacked, (scalars, WEIGHTS, " }) } }"))? {
+    if !prints_split(alloc, unpacked, scalars)? {
         return Ok(false);
     }
     let packed = SplitEq::<R, R>::new_packed(alloc, &point, element(3));
-    prints_split(alloc, packed, (lanes, WEIGHTS, " }] }) } }"))
+    prints_split(alloc, packed, lanes)
 }
 
 /// Whether 3, 4, 5, 6 in both storages, and split tables, print as they must.
@@ -76,20 +102,11 @@ pub fn prints<R: ExtensionField<R> + Debug>(alloc: Global) -> Result<bool, Alloc
 where
     R::ExtensionPacking: Debug,
 {
-    let poly = table::<R>(alloc, &[3, 4, 5, 6])?;
-    if R::Packing::WIDTH != 4 {
-        return Ok(false);
-    }
-    let packed = poly.pack::<R, R>(alloc)?;
-    Ok(
-        prints_scalars::<R>(alloc, poly)?
-            && prints_lanes::<R>(alloc, packed)?
-            && prints_halves::<R>(alloc)?,
-    )
+    Ok(prints_values::<R>(alloc)? && prints_halves::<R>(alloc)?)
 }
 
 #[test]
 fn texts(rt: HostRuntime) -> Result<(), Fail> {
-    assert!(rt; residues(rt.alloc(), Polynomials(Row::Texts))?);
+    assert!(rt; residues(rt.alloc(), Printed(Row::Polynomials))?);
     Ok(())
 }

@@ -1,9 +1,10 @@
 //! Drawn tables of 0 to 8 variables at drawn challenges, each round fed to the verifier.
-ghost use Rattle.std.specs.Prelude.{◌≡◌, ◌*◌, ◌<◌, ◌^◌, IfOk, length, suc};
+ghost use Rattle.std.specs.Prelude.{◌≡◌, ◌*◌, ◌<◌, ◌^◌, length, suc};
 ghost use Rattle.std.specs.Mem.{type_size};
 
+use super::proof;
 use mlu_ring::{Additive, ExtensionField, Field, PrimeCharacteristicRing, Sample, SelfAlgebra};
-use mlu_sumcheck::{Transcript, run, verify, verify_round};
+use mlu_sumcheck::{Transcript, verify, verify_round};
 use mlu_test_support::draws::drawn;
 use mlu_test_support::plain;
 use multilinear_util::point::Point;
@@ -30,24 +31,6 @@ fn each_round_passes<EF: PrimeCharacteristicRing>(
     true
 }
 
-/// What proves the sum of the values times the weights of the point.
-fn proof<F: Field, EF: ExtensionField<F> + SelfAlgebra>(
-    alloc: Global,
-    poly: &Poly<EF>,
-    point: &Point<EF>,
-    challenges: &[EF],
-) -> Result<Transcript<EF>, AllocError>
-    requires variables { length point.now < 9 }
-    requires challenges { length challenges.now ≡ length point.now }
-    requires values { length poly.now ≡ 2 ^ length point.now }
-    requires two_rounds_fit { 6 * type_size EF.row < 2 ^ 63 }
-    ensures rounds { IfOk result (λ transcript. length transcript.rounds.items ≡ length challenges.now) }
-    ensures claims { IfOk result (λ transcript. length transcript.claims.items ≡ suc (length challenges.now)) }
-{
-    let weights = SplitEq::<F, EF>::new_packed(alloc, point, EF::ONE)?;
-    run(alloc, poly, &weights, challenges)
-}
-
 /// Whether a proof passes, begins with the sum of all products and ends with the product of both values.
 fn passes<EF: PrimeCharacteristicRing>(
     table: &[EF],
@@ -67,6 +50,24 @@ fn passes<EF: PrimeCharacteristicRing>(
         && last == plain::value(table, challenges) * value
 }
 
+/// Whether the proof of the polynomial with the weights of the point passes at the challenges.
+fn proof_passes<F: Field, EF: ExtensionField<F> + SelfAlgebra>(
+    alloc: Global,
+    poly: &Poly<EF>,
+    point: &Point<EF>,
+    challenges: &[EF],
+) -> Result<bool, AllocError>
+    requires variables { length point.now < 9 }
+    requires challenges { length challenges.now ≡ length point.now }
+    requires values { length poly.now ≡ 2 ^ length point.now }
+    requires two_rounds_fit { 6 * type_size EF.row < 2 ^ 63 }
+{
+    let table = plain::table(alloc, point.as_slice(), EF::ONE)?;
+    let weights = SplitEq::<F, EF>::new_packed(alloc, point, EF::ONE);
+    let Transcript { rounds, claims } = proof(alloc, poly, weights, challenges)?;
+    Ok(passes(&table, poly.as_slice(), &claims, &rounds, challenges))
+}
+
 /// Whether a proof of so many variables passes.
 fn drawn_passes<F: Field, EF: ExtensionField<F> + SelfAlgebra + Sample>(
     alloc: Global,
@@ -79,9 +80,7 @@ fn drawn_passes<F: Field, EF: ExtensionField<F> + SelfAlgebra + Sample>(
     let poly = Poly::<EF>::rand(alloc, rng, variables)?;
     let point = Point::<EF>::rand(alloc, rng, variables)?;
     let challenges = drawn::<EF>(alloc, rng, variables)?;
-    let Transcript { rounds, claims } = proof::<F, EF>(alloc, &poly, &point, &challenges)?;
-    let table = plain::table(alloc, point.as_slice(), EF::ONE)?;
-    Ok(passes(&table, poly.as_slice(), &claims, &rounds, &challenges))
+    proof_passes::<F, EF>(alloc, &poly, &point, &challenges)
 }
 
 /// Whether proofs of 0 to 8 variables pass.

@@ -1,34 +1,79 @@
 //! Calls on operands in an extension, over the packed form that its base field gives.
-ghost use Rattle.std.specs.Prelude.{◌≡◌, ◌<◌, ◌^◌, length};
+ghost use Rattle.std.specs.Prelude.{◌≡◌, ◌<◌, ◌^◌, length, IfOk};
 ghost use Rattle.multilinear_util.specs.Split.{split_entries};
+ghost use Rattle.multilinear_util.specs.Storage.{scalars};
 
 use crate::element::Element;
 use crate::lines::{list_word, packed_word, table_word, value_word, word};
 use crate::ops::{batches, one_ring};
 use crate::sizes::pack;
+use crate::splits::{SplitOperands, TableAndSplit, split_table};
 use crate::words::Words;
 use mlu_eq::EqMaybePacked;
 use mlu_replay_lines::fault::{Fault, Reason};
 use mlu_ring::{ExtensionField, Field, MapFrom, PackedValue};
+use multilinear_util::point::Point;
 use multilinear_util::poly::{Poly, PolyMaybePacked};
 use multilinear_util::split_eq::SplitEq;
-use std::alloc::Global;
+use std::alloc::{AllocError, Global};
 
-/// The calls on polynomials; the others are handed on.
+/// These calls; the others are handed on.
 pub fn answer<
     F: Field + Element,
     EF: ExtensionField<F> + ExtensionField<EF> + MapFrom<EF> + Element,
 >(op: &str, words: &mut Words<'_>) -> Result<String, Fault> {
+    match op {
+        "split.to_field" => {
+            let operands = words.stored_split::<EF>()?;
+            to_field::<F, EF>(words.alloc(), &operands)
+        }
+        _ => of_polynomial::<F, EF>(op, words),
+    }
+}
+
+/// The entries of the images of the halves by the identity.
+fn to_field<F: Field, EF: ExtensionField<F> + ExtensionField<EF> + MapFrom<EF> + Element>(
+    alloc: Global,
+    operands: &SplitOperands<EF>,
+) -> Result<String, Fault>
+    requires { 2 ^ length operands.now.point < 2 ^ 64 }
+{
+    let split = split_table::<F, EF>(alloc, operands)?;
+    materialized::<EF, EF>(alloc, images::<F, EF, EF>(alloc, &split))
+}
+
+/// The split table whose halves are the images, which has as many entries.
+fn images<F: Field, EF: ExtensionField<F>, R: ExtensionField<R> + MapFrom<EF>>(
+    alloc: Global,
+    split: &SplitEq<F, EF>,
+) -> Result<SplitEq<R, R>, AllocError>
+    requires { length (split_entries EF.ring split.now) < 2 ^ 64 }
+    ensures { IfOk result (λ images. length (split_entries R.ring images) < 2 ^ 64) }
+{
+    split.to_field::<R>(alloc)
+}
+
+/// All entries of a split table that a call gives.
+fn materialized<F: Field, EF: ExtensionField<F> + Element>(
+    alloc: Global,
+    split: Result<SplitEq<F, EF>, AllocError>,
+) -> Result<String, Fault>
+    requires { IfOk split (λ split. length (split_entries EF.ring split) < 2 ^ 64) }
+{
+    let split = split?;
+    table_word(alloc, split.materialize(alloc))
+}
+
+/// The calls on polynomials; the others are handed on.
+fn of_polynomial<F: Field + Element, EF: ExtensionField<F> + Element>(
+    op: &str,
+    words: &mut Words<'_>,
+) -> Result<String, Fault> {
     let alloc = words.alloc();
     match op {
-        "eval_ext" => {
+        "eval_ext" | "eval_packed" => {
             let (table, point) = words.table_and_point::<EF, EF>()?;
-            value_word(alloc, table.eval_ext::<F>(alloc, &point))
-        }
-        "eval_packed" => {
-            let (table, point) = words.table_and_point::<EF, EF>()?;
-            let packed = pack::<F, EF>(alloc, &table)?;
-            value_word(alloc, packed.eval_packed::<F, EF>(alloc, &point))
+            evaluated::<F, EF>(alloc, op, &table, &point)
         }
         "pack_unpack" => {
             let table = words.table::<EF>()?;
@@ -40,9 +85,62 @@ pub fn answer<
         "fix_prefix_var_mut.base" => one_ring::fix_prefix_var_mut::<F, EF>(words),
         "eq_batch" => batches::eq_batch::<F, EF>(words),
         "eq_batch_in_chunks" => batches::eq_batch_in_chunks::<F, EF>(words),
-        "split.to_field" => to_field::<F, EF>(words),
         _ => of_split::<F, EF>(op, words),
     }
+}
+
+/// The value at the point, of scalars or of lanes.
+fn evaluated<F: Field, EF: ExtensionField<F> + Element>(
+    alloc: Global,
+    op: &str,
+    table: &Poly<EF>,
+    point: &Point<EF>,
+) -> Result<String, Fault>
+    requires { length table.now ≡ 2 ^ length point.now }
+{
+    if op == "eval_ext" {
+        return value_word(alloc, table.eval_ext::<F>(alloc, point));
+    }
+    let packed = pack::<F, EF>(alloc, table)?;
+    value_word(alloc, packed.eval_packed::<F, EF>(alloc, point))
+}
+
+/// `maybe_packed.eval`: the storage, a table and a point.
+fn maybe_packed_eval<F: Field, EF: ExtensionField<F> + Element>(
+    words: &mut Words<'_>,
+) -> Result<String, Fault> {
+    let is_packed = words.is_packed()?;
+    let (table, point) = words.table_and_point::<EF, EF>()?;
+    let stored = stored::<F, EF>(words.alloc(), table, is_packed)?;
+    value_word(words.alloc(), stored.eval(words.alloc(), &point))
+}
+
+/// The table in the storage.
+fn stored<F: Field, EF: ExtensionField<F>>(
+    alloc: Global,
+    table: Poly<EF>,
+    is_packed: bool,
+) -> Result<PolyMaybePacked<F, EF>, Fault>
+    ensures { IfOk result (λ stored. scalars EF.ExtensionPacking.ext_lanes stored ≡ table) }
+{
+    if is_packed {
+        Ok(PolyMaybePacked::Packed(pack::<F, EF>(alloc, &table)?))
+    } else {
+        Ok(PolyMaybePacked::Scalar(table))
+    }
+}
+
+/// `new_packed_from_point`: a point and a scale.
+fn new_packed_from_point<F: Field, EF: ExtensionField<F> + Element>(
+    words: &mut Words<'_>,
+) -> Result<String, Fault> {
+    let point = words.short_point::<EF>()?;
+    let scale = words.element::<EF>()?;
+    if point.num_variables() < <F::Packing as PackedValue>::LOG_WIDTH {
+        return Err(Fault::Unknown(Reason::Size));
+    }
+    let packed = Poly::new_packed_from_point::<F, EF>(words.alloc(), point.as_slice(), scale);
+    packed_word::<F, EF>(words.alloc(), packed)
 }
 
 /// The calls that read a split table; the others are handed on.
@@ -53,17 +151,16 @@ fn of_split<F: Field, EF: ExtensionField<F> + Element>(
     let alloc = words.alloc();
     match op {
         "split.eval_ext" | "split.eval_packed" => {
-            let (table, split) = words.table_and_split::<EF, F, EF>()?;
-            by_split(alloc, op, &table, &split)
+            let operands = words.table_and_split::<EF, EF>()?;
+            by_split::<F, EF>(alloc, op, &operands)
         }
         "split.materialize" | "split.eq0" | "split.last_scalar" => {
-            let split = words.stored_split::<F, EF>()?;
-            entries_of(alloc, op, &split)
+            let operands = words.stored_split::<EF>()?;
+            entries_of::<F, EF>(alloc, op, &operands)
         }
         "split.eq1_last_scalar" => {
-            let is_packed = words.is_packed()?;
-            let split = words.unscaled_split::<F, EF>(is_packed)?;
-            word(alloc, split.eq1().last_scalar())
+            let operands = words.stored_unscaled_split::<EF>()?;
+            entries_of::<F, EF>(alloc, op, &operands)
         }
         _ => accumulated::<F, EF>(op, words),
     }
@@ -73,29 +170,43 @@ fn of_split<F: Field, EF: ExtensionField<F> + Element>(
 fn by_split<F: Field, EF: ExtensionField<F> + Element>(
     alloc: Global,
     op: &str,
+    operands: &TableAndSplit<EF, EF>,
+) -> Result<String, Fault>
+    requires fits { 2 ^ length operands.now.split.point < 2 ^ 64 }
+    requires size { length operands.now.table ≡ 2 ^ length operands.now.split.point }
+{
+    let split = split_table::<F, EF>(alloc, &operands.split)?;
+    match op {
+        "split.eval_ext" => word(alloc, split.eval_ext(operands.table.as_view())),
+        _ => packed_value::<F, EF>(alloc, &operands.table, &split),
+    }
+}
+
+/// The value of the packed table by the split table.
+fn packed_value<F: Field, EF: ExtensionField<F> + Element>(
+    alloc: Global,
     table: &Poly<EF>,
     split: &SplitEq<F, EF>,
 ) -> Result<String, Fault>
     requires { length table.now ≡ length (split_entries EF.ring split.now) }
 {
-    if op == "split.eval_ext" {
-        return word(alloc, split.eval_ext(table.as_view()));
-    }
     let packed = pack::<F, EF>(alloc, table)?;
     value_word(alloc, split.eval_packed(alloc, packed.as_view()))
 }
 
-/// All entries of the split table, those of its first half, or the last one.
+/// All entries of the split table, those of its first half, or the last one of it or of its second half.
 fn entries_of<F: Field, EF: ExtensionField<F> + Element>(
     alloc: Global,
     op: &str,
-    split: &SplitEq<F, EF>,
+    operands: &SplitOperands<EF>,
 ) -> Result<String, Fault>
-    requires { length (split_entries EF.ring split.now) < 2 ^ 64 }
+    requires { 2 ^ length operands.now.point < 2 ^ 64 }
 {
+    let split = split_table::<F, EF>(alloc, operands)?;
     match op {
         "split.materialize" => table_word(alloc, split.materialize(alloc)),
         "split.eq0" => list_word(alloc, split.eq0().as_slice()),
+        "split.eq1_last_scalar" => word(alloc, split.eq1().last_scalar()),
         _ => word(alloc, split.last_scalar()),
     }
 }
@@ -105,26 +216,48 @@ fn accumulated<F: Field, EF: ExtensionField<F> + Element>(
     op: &str,
     words: &mut Words<'_>,
 ) -> Result<String, Fault> {
+    let alloc = words.alloc();
     match op {
-        "split.accumulate_into" => {
-            let (mut out, split) = words.table_and_split::<EF, F, EF>()?;
-            let scale = words.scale::<EF>()?;
-            split.accumulate_into(out.as_mut_slice(), scale);
-            list_word(words.alloc(), out.as_slice())
+        "split.accumulate_into" | "split.accumulate_into_packed" => {
+            let (mut out, scale) = words.output_and_scale::<EF>()?;
+            accumulate::<F, EF>(alloc, op, &mut out, scale)
         }
-        "split.accumulate_into_packed" => accumulate_into_packed::<F, EF>(words),
-        "split.accumulate_next_chunk_into" => accumulate_next_chunk_into::<F, EF>(words),
+        "split.accumulate_next_chunk_into" => {
+            let (mut out, factors) = words.output_and_factors::<EF>()?;
+            accumulate_next_chunk_into::<F, EF>(alloc, &mut out, factors)
+        }
         _ => Err(Fault::Unknown(Reason::Op)),
     }
 }
 
-/// `split.accumulate_into_packed`: the storage, a table, a point, a scale and what all is multiplied by.
-fn accumulate_into_packed<F: Field, EF: ExtensionField<F> + Element>(
-    words: &mut Words<'_>,
-) -> Result<String, Fault> {
-    let (out, split) = words.table_and_split::<EF, F, EF>()?;
-    let scale = words.scale::<EF>()?;
-    packed_sums(words.alloc(), &out, &split, scale)
+/// The output with the split table added, as scalars or packed.
+fn accumulate<F: Field, EF: ExtensionField<F> + Element>(
+    alloc: Global,
+    op: &str,
+    out: &mut TableAndSplit<EF, EF>,
+    scale: Option<EF>,
+) -> Result<String, Fault>
+    requires fits { 2 ^ length out.old.split.point < 2 ^ 64 }
+    requires size { length out.old.table ≡ 2 ^ length out.old.split.point }
+{
+    let split = split_table::<F, EF>(alloc, &out.split)?;
+    match op {
+        "split.accumulate_into" => sums::<F, EF>(alloc, &mut out.table, &split, scale),
+        _ => packed_sums::<F, EF>(alloc, &out.table, &split, scale),
+    }
+}
+
+/// The table with the split table added.
+fn sums<F: Field, EF: ExtensionField<F> + Element>(
+    alloc: Global,
+    table: &mut Poly<EF>,
+    split: &SplitEq<F, EF>,
+    scale: Option<EF>,
+) -> Result<String, Fault>
+    requires { length table.old ≡ length (split_entries EF.ring split.now) }
+{
+    split.accumulate_into(table.as_mut_slice(), scale);
+    list_word(alloc, table.as_slice())
 }
 
 /// The packed table with the split table added.
@@ -141,64 +274,28 @@ fn packed_sums<F: Field, EF: ExtensionField<F> + Element>(
     table_word(alloc, packed.unpack::<F, EF>(alloc))
 }
 
-/// `maybe_packed.eval`: the storage, a table and a point.
-fn maybe_packed_eval<F: Field, EF: ExtensionField<F> + Element>(
-    words: &mut Words<'_>,
-) -> Result<String, Fault> {
-    let is_packed = words.is_packed()?;
-    let (table, point) = words.table_and_point::<EF, EF>()?;
-    let stored = if is_packed {
-        PolyMaybePacked::<F, EF>::Packed(pack::<F, EF>(words.alloc(), &table)?)
-    } else {
-        PolyMaybePacked::Scalar(table)
-    };
-    value_word(words.alloc(), stored.eval(words.alloc(), &point))
-}
-
-/// `new_packed_from_point`: a point and a scale.
-fn new_packed_from_point<F: Field, EF: ExtensionField<F> + Element>(
-    words: &mut Words<'_>,
-) -> Result<String, Fault> {
-    let point = words.short_point::<EF>()?;
-    let scale = words.element::<EF>()?;
-    if point.num_variables() < <F::Packing as PackedValue>::LOG_WIDTH {
-        return Err(Fault::Unknown(Reason::Size));
-    }
-    let packed = Poly::new_packed_from_point::<F, EF>(words.alloc(), point.as_slice(), scale);
-    packed_word::<F, EF>(words.alloc(), packed)
-}
-
-/// `split.to_field` by the identity, and then `materialize`: the storage, a point and a scale.
-fn to_field<F: Field, EF: ExtensionField<F> + ExtensionField<EF> + MapFrom<EF> + Element>(
-    words: &mut Words<'_>,
-) -> Result<String, Fault> {
-    let split = words.stored_split::<F, EF>()?;
-    let images = split.to_field::<EF>(words.alloc())?;
-    table_word(words.alloc(), images.materialize(words.alloc()))
-}
-
-/// `split.accumulate_next_chunk_into`: the storage, the output, a point, the two weights and the
-/// boundary.
+/// The output with the step to the next row of the second half of the split table added.
 fn accumulate_next_chunk_into<F: Field, EF: ExtensionField<F> + Element>(
-    words: &mut Words<'_>,
-) -> Result<String, Fault> {
-    let is_packed = words.is_packed()?;
-    let mut out = words.table::<EF>()?;
-    let split = words.unscaled_split::<F, EF>(is_packed)?;
-    let factors = words.three_elements()?;
-    add_next_chunk(&mut out, split.eq1(), factors)?;
-    list_word(words.alloc(), out.as_slice())
+    alloc: Global,
+    out: &mut TableAndSplit<EF, EF>,
+    factors: (EF, EF, EF),
+) -> Result<String, Fault>
+    requires { 2 ^ length out.old.split.point < 2 ^ 64 }
+{
+    let split = split_table::<F, EF>(alloc, &out.split)?;
+    add_next_chunk::<F, EF>(alloc, &mut out.table, split.eq1(), factors)
 }
 
 /// Adds the step to the next row, by the two weights and the boundary, to as many places as the half has weights.
-fn add_next_chunk<F: Field, EF: ExtensionField<F>>(
+fn add_next_chunk<F: Field, EF: ExtensionField<F> + Element>(
+    alloc: Global,
     out: &mut Poly<EF>,
     eq1: &EqMaybePacked<F, EF>,
     (eq_weight, shifted_weight, boundary): (EF, EF, EF),
-) -> Result<(), Fault> {
+) -> Result<String, Fault> {
     if out.num_variables() != eq1.num_variables() {
         return Err(Fault::Unknown(Reason::Size));
     }
     eq1.accumulate_next_chunk_into(out.as_mut_slice(), eq_weight, shifted_weight, boundary);
-    Ok(())
+    list_word(alloc, out.as_slice())
 }

@@ -1,18 +1,17 @@
 //! Calls on tables in a base field, with points and scales in its extension.
-ghost use Rattle.std.specs.Prelude.{◌≡◌, ◌≤◌, ◌^◌, length};
-ghost use Rattle.multilinear_util.specs.Split.{split_entries};
+ghost use Rattle.std.specs.Prelude.{◌≡◌, ◌*◌, ◌<◌, ◌≤◌, ◌^◌, length};
 
 use crate::element::Element;
 use crate::lines::{list_word, packed_word, table_word, value_word, word};
 use crate::ops::{batches, either};
-use crate::sizes::{test_lanes, test_parts};
+use crate::sizes::test_lanes;
+use crate::splits::{TableAndSplit, split_table};
 use crate::words::Words;
 use mlu_replay_lines::fault::{Fault, Reason};
 use mlu_ring::{ExtensionField, Field, PackedValue, SelfAlgebra};
 use multilinear_util::point::Point;
 use multilinear_util::point::Successor::Wrap;
 use multilinear_util::poly::Poly;
-use multilinear_util::split_eq::SplitEq;
 use std::alloc::{AllocError, Global};
 
 /// The calls on polynomials; the others are handed on.
@@ -77,15 +76,15 @@ fn of_split<F: Field + Element, EF: ExtensionField<F> + SelfAlgebra + Element>(
     let alloc = words.alloc();
     match op {
         "split.eval_base" | "split.eval_next_base" | "split.eval_next_base.wrap" => {
-            let (table, split) = words.table_and_split::<F, F, EF>()?;
-            word(alloc, value_by_split(op, &table, &split))
+            let operands = words.table_and_split::<F, EF>()?;
+            value_by_split::<F, EF>(alloc, op, &operands)
         }
         "split.compress_prefix"
         | "split.compress_suffix"
         | "split.compress_prefix_shifted"
         | "split.compress_suffix_shifted" => {
-            let (table, split) = words.table_and_smaller_split::<F, EF>()?;
-            table_word(alloc, compressed_by_split(alloc, op, &table, &split))
+            let operands = words.table_and_smaller_split::<F, EF>()?;
+            compressed_by_split::<F, EF>(alloc, op, &operands)
         }
         "split.compress_prefix_split" | "split.compress_prefix_shifted_split" => {
             compressed_in_parts::<F, EF>(op, words)
@@ -97,37 +96,42 @@ fn of_split<F: Field + Element, EF: ExtensionField<F> + SelfAlgebra + Element>(
 }
 
 /// The value by the split table, or that of the next rows.
-fn value_by_split<F: Field, EF: ExtensionField<F>>(
+fn value_by_split<F: Field, EF: ExtensionField<F> + Element>(
+    alloc: Global,
     op: &str,
-    table: &Poly<F>,
-    split: &SplitEq<F, EF>,
-) -> EF
-    requires { length table.now ≡ length (split_entries EF.ring split.now) }
+    operands: &TableAndSplit<F, EF>,
+) -> Result<String, Fault>
+    requires fits { 2 ^ length operands.now.split.point < 2 ^ 64 }
+    requires size { length operands.now.table ≡ 2 ^ length operands.now.split.point }
 {
-    let view = table.as_view();
-    match op {
+    let split = split_table::<F, EF>(alloc, &operands.split)?;
+    let view = operands.table.as_view();
+    let value = match op {
         "split.eval_base" => split.eval_base(view),
         "split.eval_next_base" => split.eval_next_base(view),
         _ => split.eval_next_base_by(Wrap, view),
-    }
+    };
+    word(alloc, value)
 }
 
 /// The table compressed by the split table, or by the split table moved by one place.
-fn compressed_by_split<F: Field, EF: ExtensionField<F>>(
+fn compressed_by_split<F: Field, EF: ExtensionField<F> + Element>(
     alloc: Global,
     op: &str,
-    table: &Poly<F>,
-    split: &SplitEq<F, EF>,
-) -> Result<Poly<EF>, AllocError>
-    requires { length (split_entries EF.ring split.now) ≤ length table.now }
+    operands: &TableAndSplit<F, EF>,
+) -> Result<String, Fault>
+    requires fits { 2 ^ length operands.now.split.point < 2 ^ 64 }
+    requires size { 2 ^ length operands.now.split.point ≤ length operands.now.table }
 {
-    let view = table.as_view();
-    match op {
+    let split = split_table::<F, EF>(alloc, &operands.split)?;
+    let view = operands.table.as_view();
+    let compressed = match op {
         "split.compress_prefix" => split.compress_prefix(alloc, view),
         "split.compress_suffix" => split.compress_suffix(alloc, view),
         "split.compress_prefix_shifted" => split.compress_prefix_shifted(alloc, view),
         _ => split.compress_suffix_shifted(alloc, view),
-    }
+    };
+    table_word(alloc, compressed)
 }
 
 /// `split.compress_prefix_split`, `split.compress_prefix_shifted_split`: the number of parts, the storage,
@@ -136,15 +140,26 @@ fn compressed_in_parts<F: Field + Element, EF: ExtensionField<F> + Element>(
     op: &str,
     words: &mut Words<'_>,
 ) -> Result<String, Fault> {
-    let alloc = words.alloc();
-    let parts = words.number()?;
-    if parts == 0 {
-        return Err(Fault::Unknown(Reason::Size));
-    }
-    let (table, split) = words.table_and_smaller_split::<F, EF>()?;
+    let (parts, operands) = words.parts_and_smaller_split::<F, EF>()?;
+    compressed_by_parts::<F, EF>(words.alloc(), op, parts, &operands)
+}
+
+/// The table compressed by so many parts of the split table, or of the split table moved by one place.
+fn compressed_by_parts<F: Field, EF: ExtensionField<F> + Element>(
+    alloc: Global,
+    op: &str,
+    parts: usize,
+    operands: &TableAndSplit<F, EF>,
+) -> Result<String, Fault>
+    requires parts { 0 < parts }
+    requires fits { 2 ^ length operands.now.split.point < 2 ^ 64 }
+    requires size { 2 ^ length operands.now.split.point ≤ length operands.now.table }
+{
+    let split = split_table::<F, EF>(alloc, &operands.split)?;
+    let view = operands.table.as_view();
     let compressed = match op {
-        "split.compress_prefix_split" => split.compress_prefix_split(alloc, table.as_view(), parts),
-        _ => split.compress_prefix_shifted_split(alloc, table.as_view(), parts),
+        "split.compress_prefix_split" => split.compress_prefix_split(alloc, view, parts),
+        _ => split.compress_prefix_shifted_split(alloc, view, parts),
     };
     table_word(alloc, compressed)
 }
@@ -175,27 +190,45 @@ fn compress_prefix_to_packed<F: Field + Element, EF: ExtensionField<F> + Element
 fn split_compress_prefix_to_packed<F: Field + Element, EF: ExtensionField<F> + Element>(
     words: &mut Words<'_>,
 ) -> Result<String, Fault> {
-    let is_packed = words.is_packed()?;
-    let table = words.table::<F>()?;
-    let split = words.split::<F, EF>(is_packed)?;
-    test_lanes::<F>(table.num_variables(), split.num_variables())?;
-    let compressed = split.compress_prefix_to_packed(words.alloc(), table.as_view());
-    packed_word::<F, EF>(words.alloc(), compressed)
+    let operands = words.table_and_any_split::<F, EF>()?;
+    test_lanes::<F>(
+        operands.table.num_variables(),
+        operands.split.point.num_variables(),
+    )?;
+    compressed_to_packed::<F, EF>(words.alloc(), &operands)
+}
+
+/// The table compressed by the split table, in packed form.
+fn compressed_to_packed<F: Field, EF: ExtensionField<F> + Element>(
+    alloc: Global,
+    operands: &TableAndSplit<F, EF>,
+) -> Result<String, Fault>
+    requires fits { 2 ^ length operands.now.split.point < 2 ^ 64 }
+    requires size { 2 ^ length operands.now.split.point * F.Packing.WIDTH ≤ length operands.now.table }
+{
+    let split = split_table::<F, EF>(alloc, &operands.split)?;
+    let compressed = split.compress_prefix_to_packed(alloc, operands.table.as_view());
+    packed_word::<F, EF>(alloc, compressed)
 }
 
 /// `split.compress_suffix_into`: the storage, the output, a table, a point and a scale.
 fn split_compress_suffix_into<F: Field + Element, EF: ExtensionField<F> + Element>(
     words: &mut Words<'_>,
 ) -> Result<String, Fault> {
-    let is_packed = words.is_packed()?;
-    let mut out = words.table::<EF>()?;
-    let table = words.table::<F>()?;
-    let split = words.split::<F, EF>(is_packed)?;
-    test_parts(
-        table.num_variables(),
-        out.num_variables(),
-        split.num_variables(),
-    )?;
-    split.compress_suffix_into(out.as_mut_slice(), table.as_view());
-    list_word(words.alloc(), out.as_slice())
+    let (mut out, operands) = words.output_and_split::<F, EF>()?;
+    compress_suffix_into::<F, EF>(words.alloc(), &mut out, &operands)
+}
+
+/// The table compressed by the split table, in the place of the output.
+fn compress_suffix_into<F: Field, EF: ExtensionField<F> + Element>(
+    alloc: Global,
+    out: &mut Poly<EF>,
+    operands: &TableAndSplit<F, EF>,
+) -> Result<String, Fault>
+    requires fits { 2 ^ length operands.now.split.point < 2 ^ 64 }
+    requires size { length operands.now.table ≡ length out.old * 2 ^ length operands.now.split.point }
+{
+    let split = split_table::<F, EF>(alloc, &operands.split)?;
+    split.compress_suffix_into(out.as_mut_slice(), operands.table.as_view());
+    list_word(alloc, out.as_slice())
 }

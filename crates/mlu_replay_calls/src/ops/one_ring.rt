@@ -1,7 +1,8 @@
 //! Calls over one ring.
+ghost use Rattle.std.specs.Prelude.{◌<◌, ◌^◌, length};
 
 use crate::element::Element;
-use crate::lines::{list_word, table_word, word};
+use crate::lines::{list_word, point_word, table_word, vec_word, word};
 use crate::operands::MOST_VARIABLES;
 use crate::ops::batches;
 use crate::words::Words;
@@ -10,6 +11,7 @@ use mlu_ring::{Algebra, Field, PrimeCharacteristicRing, SelfAlgebra};
 use multilinear_util::point::Point;
 use multilinear_util::point::Successor::{self, RepeatLast, Wrap};
 use multilinear_util::poly::Poly;
+use std::alloc::{AllocError, Global};
 
 /// The most coordinates of a point that is made of a number.
 const MOST_COORDINATES: usize = 1 << 24;
@@ -21,20 +23,13 @@ pub fn answer<F: Field + SelfAlgebra + Element>(
 ) -> Result<String, Fault> {
     let alloc = words.alloc();
     match op {
-        "msb" => {
+        "msb" | "lsb" => {
             let point = words.short_point::<F>()?;
-            let weights = point.equality_weights_msb(alloc)?;
-            list_word(alloc, &weights)
-        }
-        "lsb" => {
-            let point = words.short_point::<F>()?;
-            let weights = point.equality_weights_lsb(alloc)?;
-            list_word(alloc, &weights)
+            vec_word(alloc, equality_weights(alloc, op, &point))
         }
         "reversed" => {
             let point = words.point::<F>()?;
-            let reversed = point.reversed(alloc)?;
-            list_word(alloc, reversed.as_slice())
+            point_word(alloc, point.reversed(alloc))
         }
         "equality_at_vertex" => equality_at_vertex::<F>(words),
         "hypercube" => hypercube::<F>(words),
@@ -44,6 +39,20 @@ pub fn answer<F: Field + SelfAlgebra + Element>(
         "eval_next_by.wrap" => eval_next_by::<F>(Wrap, words),
         "transpose" => batches::transpose::<F>(words),
         _ => of_table::<F>(op, words),
+    }
+}
+
+/// The equality weights of the point, by the order of the bits.
+fn equality_weights<F: Field>(
+    alloc: Global,
+    op: &str,
+    point: &Point<F>,
+) -> Result<Vec<F>, AllocError>
+    requires { 2 ^ length point.now < 2 ^ 64 }
+{
+    match op {
+        "msb" => point.equality_weights_msb(alloc),
+        _ => point.equality_weights_lsb(alloc),
     }
 }
 
@@ -57,18 +66,26 @@ fn of_table<F: SelfAlgebra + Element>(op: &str, words: &mut Words<'_>) -> Result
             let table = Poly::new_from_point(alloc, point.as_slice(), scale);
             table_word(alloc, table)
         }
-        "new_next_from_point" => {
+        "new_next_from_point" | "new_next_from_point.wrap" => {
             let point = words.short_point::<F>()?;
-            let table = Poly::new_next_from_point(alloc, point.as_slice());
-            table_word(alloc, table)
-        }
-        "new_next_from_point.wrap" => {
-            let point = words.short_point::<F>()?;
-            let table = Poly::new_next_from_point_by(alloc, Wrap, point.as_slice());
-            table_word(alloc, table)
+            table_word(alloc, next_table(alloc, op, point.as_slice()))
         }
         "pad_zeros" => pad_zeros::<F>(words),
         _ => folded_in_place::<F>(op, words),
+    }
+}
+
+/// The weights at the point, each moved to the next vertex.
+fn next_table<F: PrimeCharacteristicRing>(
+    alloc: Global,
+    op: &str,
+    point: &[F],
+) -> Result<Poly<F>, AllocError>
+    requires { 2 ^ length point.now < 2 ^ 64 }
+{
+    match op {
+        "new_next_from_point" => Poly::new_next_from_point(alloc, point),
+        _ => Poly::new_next_from_point_by(alloc, Wrap, point),
     }
 }
 
@@ -80,14 +97,12 @@ fn folded_in_place<F: SelfAlgebra + Element>(
     let alloc = words.alloc();
     match op {
         "fix_prefix_var_mut" => fix_prefix_var_mut::<F, F>(words),
-        "fix_suffix_var_mut" => {
+        "fix_suffix_var_mut" | "fix_prefix_var_mut_monomial" => {
             let (mut table, r) = words.larger_table_and_element::<F, F>()?;
-            table.fix_suffix_var_mut(r);
-            list_word(alloc, table.as_slice())
-        }
-        "fix_prefix_var_mut_monomial" => {
-            let (mut table, r) = words.larger_table_and_element::<F, F>()?;
-            table.fix_prefix_var_mut_monomial(r);
+            match op {
+                "fix_suffix_var_mut" => table.fix_suffix_var_mut(r),
+                _ => table.fix_prefix_var_mut_monomial(r),
+            }
             list_word(alloc, table.as_slice())
         }
         "sum_prefix_var_mut" => {
@@ -147,8 +162,8 @@ fn hypercube<F: Field + Element>(words: &mut Words<'_>) -> Result<String, Fault>
     if variables < usize::BITS as usize && vertex >> variables != 0 {
         return Err(Fault::Unknown(Reason::Size));
     }
-    let point = Point::<F>::hypercube(words.alloc(), vertex, variables)?;
-    list_word(words.alloc(), point.as_slice())
+    let point = Point::<F>::hypercube(words.alloc(), vertex, variables);
+    point_word(words.alloc(), point)
 }
 
 /// `expand_from_univariate`: an element and the number of coordinates.
@@ -158,19 +173,23 @@ fn expand_from_univariate<F: Field + Element>(words: &mut Words<'_>) -> Result<S
     if variables > MOST_COORDINATES {
         return Err(Fault::Unknown(Reason::Large));
     }
-    let point = Point::expand_from_univariate(words.alloc(), y, variables)?;
-    list_word(words.alloc(), point.as_slice())
+    let point = Point::expand_from_univariate(words.alloc(), y, variables);
+    point_word(words.alloc(), point)
 }
 
 /// `eval_next`: two points. Answers carry, done and last.
 fn eval_next<F: Field + Element>(words: &mut Words<'_>) -> Result<String, Fault> {
     let (point, row) = words.two_lists::<F, F>()?;
-    let (carry, done, last) = Point::eval_next(&point, &row);
-    let mut steps = Vec::with_capacity(words.alloc(), 3)?;
+    steps_word(words.alloc(), Point::eval_next(&point, &row))
+}
+
+/// The words of the three steps.
+fn steps_word<T: Element>(alloc: Global, (carry, done, last): (T, T, T)) -> Result<String, Fault> {
+    let mut steps = Vec::with_capacity(alloc, 3)?;
     for step in [carry, done, last] {
         steps.push(step).map_err(|_| Fault::Memory)?;
     }
-    list_word(words.alloc(), &steps)
+    list_word(alloc, &steps)
 }
 
 /// `eval_next_by`: two points.
