@@ -2,11 +2,10 @@
 ghost use Rattle.std.specs.Prelude.{map, string_bytes};
 ghost use Rattle.mlu_command.specs.Commands.{Eval, Next, Msb, Lsb, FoldFirst, FoldLast, Routes, Sumcheck, Answers, AnswersWords};
 
-use crate::element::Element;
 use crate::fault::Fault;
 use crate::operands::{short_point, table_and_number, table_and_point, table_and_points};
 use crate::proof::proof;
-use crate::routes::{by_lanes, by_scalars, packed};
+use crate::routes::by_each;
 use crate::words::{line, lines, proof_lines};
 use std::alloc::Global;
 
@@ -69,10 +68,7 @@ fn routes(alloc: Global, table: &str, point: &str) -> Result<Vec<u8>, Fault>
     ensures { Answers (Routes table.now point.now) result }
 {
     let (table, point) = table_and_point(alloc, table, point)?;
-    let direct = table.eval_base(alloc, &point)?;
-    let by_scalars = by_scalars::<Element, Element>(alloc, &table, &point)?;
-    let by_lanes = by_lanes::<Element, Element>(alloc, &table, &point)?;
-    let packed = packed::<Element, Element>(alloc, table, &point)?;
+    let (direct, by_scalars, by_lanes, packed) = by_each(alloc, table, &point)?;
     Ok(lines(alloc, &[direct, by_scalars, by_lanes, packed])?)
 }
 
@@ -81,7 +77,7 @@ fn sumcheck(alloc: Global, table: &str, point: &str, challenges: &str) -> Result
     ensures { Answers (Sumcheck table.now point.now challenges.now) result }
 {
     let (table, point, challenges) = table_and_points(alloc, table, point, challenges)?;
-    let (rounds, last) = proof::<Element, Element>(alloc, &table, &point, challenges.as_slice())?;
+    let (rounds, last) = proof(alloc, &table, &point, challenges.as_slice())?;
     Ok(proof_lines(alloc, rounds, last)?)
 }
 

@@ -3,7 +3,7 @@ ghost use Rattle.std.specs.Prelude.{◌≡◌, ◌^◌, length, IfOk};
 ghost use Rattle.mlu_ring.specs.Tables.{weights};
 ghost use Rattle.mlu_sumcheck.specs.Rounds.{rounds_of, product_of_values};
 
-use mlu_ring::{Additive, ExtensionField, Field, SelfAlgebra};
+use mlu_ring::{Additive, ExtensionField, SelfAlgebra};
 use mlu_sumcheck::{Transcript, run};
 use multilinear_util::point::Point;
 use multilinear_util::poly::Poly;
@@ -15,20 +15,20 @@ use std::alloc::{AllocError, Global};
 ///
 /// # Errors
 /// Where memory is refused.
-pub fn proof<F: Field, EF: ExtensionField<F> + SelfAlgebra>(
+pub fn proof<R: ExtensionField<R> + SelfAlgebra>(
     alloc: Global,
-    table: &Poly<EF>,
-    point: &Point<EF>,
-    challenges: &[EF],
-) -> Result<(Vec<[EF; 3]>, EF), AllocError>
+    table: &Poly<R>,
+    point: &Point<R>,
+    challenges: &[R],
+) -> Result<(Vec<[R; 3]>, R), AllocError>
     requires point { length table.now ≡ 2 ^ length point.now }
     requires challenges { length table.now ≡ 2 ^ length challenges.now }
-    ensures rounds { IfOk result (λ both. both.0.items ≡ rounds_of EF.ring (weights EF.ring point.now) table.now challenges.now) }
-    ensures last { IfOk result (λ both. both.1 ≡ product_of_values EF.ring (weights EF.ring point.now) table.now challenges.now) }
+    ensures rounds { IfOk result (λ both. both.0.items ≡ rounds_of R.ring (weights R.ring point.now) table.now challenges.now) }
+    ensures last { IfOk result (λ both. both.1 ≡ product_of_values R.ring (weights R.ring point.now) table.now challenges.now) }
 {
     // Called for its clauses: the number of entries, and so of weights, fits a `usize`.
     let _entries = table.num_evals();
-    let split = SplitEq::<F, EF>::new_unpacked(alloc, point, EF::ONE)?;
+    let split = SplitEq::<R, R>::new_unpacked(alloc, point, R::ONE)?;
     let Transcript { rounds, claims } = run(alloc, table, &split, challenges)?;
     let last = claims[challenges.len()];
     Ok((rounds, last))

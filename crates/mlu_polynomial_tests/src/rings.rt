@@ -5,10 +5,11 @@
 ghost use Rattle.std.specs.Prelude.{◌*◌, ◌<◌, ◌^◌, length};
 ghost use Rattle.std.specs.Mem.{type_size};
 
+use crate::polynomials::images;
 use crate::{examples, polynomials, printed, slices, sumcheck};
 use mlu_ext::QuarticExtension;
 use mlu_lanes::{BabyBear, WrappingU64};
-use mlu_ring::{ExtensionField, Field, Sample, SelfAlgebra};
+use mlu_ring::{ExtensionField, Field, MapFrom, Sample, SelfAlgebra};
 use std::alloc::{AllocError, Global};
 use std::fmt::Debug;
 
@@ -24,6 +25,8 @@ pub type Word = WrappingU64<4>;
 /// What is tried over residues, and over their quartic extension.
 pub enum Row {
     BatchInChunks,
+    /// The images of a split table in its own ring.
+    Images,
     Polynomials(polynomials::Row),
     /// Over the residues alone.
     Printed(printed::Row),
@@ -32,7 +35,7 @@ pub enum Row {
 }
 
 /// Whether the row holds over an extension of a ring.
-fn holds<F: Field, EF: ExtensionField<F> + SelfAlgebra + Sample>(
+fn holds<F: Field, EF: ExtensionField<F> + ExtensionField<EF> + SelfAlgebra + MapFrom<EF> + Sample>(
     alloc: Global,
     row: Row,
 ) -> Result<bool, AllocError>
@@ -40,6 +43,10 @@ fn holds<F: Field, EF: ExtensionField<F> + SelfAlgebra + Sample>(
 {
     match row {
         Row::BatchInChunks => examples::adds_in_chunks::<F, EF>(alloc),
+        Row::Images => {
+            let (coordinates, numbers) = (&images::COORDINATES, &images::IMAGES);
+            images::are_numbers::<F, EF, EF>(alloc, coordinates, numbers)
+        }
         Row::Polynomials(row) => polynomials::holds::<EF>(alloc, row),
         Row::Printed(_) => Ok(false),
         Row::Slices(row) => slices::holds::<EF>(alloc, row),
@@ -48,7 +55,7 @@ fn holds<F: Field, EF: ExtensionField<F> + SelfAlgebra + Sample>(
 }
 
 /// Whether the row holds over a ring as an extension of itself.
-fn holds_over_itself<R: ExtensionField<R> + SelfAlgebra + Sample + Debug>(
+fn holds_over_itself<R: ExtensionField<R> + SelfAlgebra + MapFrom<R> + Sample + Debug>(
     alloc: Global,
     row: Row,
 ) -> Result<bool, AllocError>
@@ -85,7 +92,7 @@ pub fn residues_in_quartics(
 ) -> Result<bool, AllocError>
     requires { length coordinates.now < 64 }
 {
-    polynomials::images::are_numbers::<Residue, Quartic>(alloc, coordinates, numbers)
+    images::are_numbers::<Residue, Residue, Quartic>(alloc, coordinates, numbers)
 }
 
 /// Whether 5 times the weights of the point have these images in the words.
@@ -96,5 +103,5 @@ pub fn residues_in_words(
 ) -> Result<bool, AllocError>
     requires { length coordinates.now < 64 }
 {
-    polynomials::images::are::<Residue, Word>(alloc, coordinates, images)
+    images::are::<Residue, Residue, Word>(alloc, coordinates, images)
 }

@@ -5,7 +5,8 @@
 
 mod batches;
 mod either;
-mod extended;
+pub mod extended;
+mod images;
 pub mod mixed;
 mod one_ring;
 
@@ -15,30 +16,34 @@ use mlu_replay_lines::fault::{Fault, Reason};
 use mlu_ring::{ExtensionField, Field, MapFrom, SelfAlgebra};
 
 /// Whether no function that was asked has the call.
-fn is_missing(answer: &Result<String, Fault>) -> bool {
+pub fn is_missing(answer: &Result<String, Fault>) -> bool {
     matches!(answer, Err(Fault::Unknown(Reason::Op)))
 }
 
 /// Any call, over a ring that is its own extension.
-pub fn over_itself<F: Field + ExtensionField<F> + SelfAlgebra + MapFrom<F> + Element>(
+pub fn over_itself<R: ExtensionField<R> + SelfAlgebra + MapFrom<R> + Element>(
     op: &str,
     words: &mut Words<'_>,
 ) -> Result<String, Fault> {
-    let answer = mixed::answer::<F, F>(op, words);
+    let answer = mixed::answer::<R, R>(op, words);
+    if !is_missing(&answer) {
+        return answer;
+    }
+    let answer = extended::answer::<R, R>(op, words);
     if is_missing(&answer) {
-        return extended::answer::<F, F>(op, words);
+        return alone::<R>(op, words);
     }
     answer
 }
 
-/// The calls with all operands in an extension, which is packed over its base field.
-pub fn over_base<
-    F: Field + Element,
-    EF: ExtensionField<F> + ExtensionField<EF> + SelfAlgebra + MapFrom<EF> + Element,
->(op: &str, words: &mut Words<'_>) -> Result<String, Fault> {
-    let answer = either::answer::<EF, EF>(op, words);
-    if is_missing(&answer) {
-        return extended::answer::<F, EF>(op, words);
+/// The calls over a ring alone: of one ring, of a ring and an extension, which is the ring itself, and
+/// `split.to_field`.
+pub fn alone<R: ExtensionField<R> + SelfAlgebra + MapFrom<R> + Element>(
+    op: &str,
+    words: &mut Words<'_>,
+) -> Result<String, Fault> {
+    if op == "split.to_field" {
+        return images::to_field::<R>(words);
     }
-    answer
+    either::answer::<R, R>(op, words)
 }

@@ -9,7 +9,7 @@ ghost use Rattle.std.specs.Prelude.{◌<◌};
 use mlu_ext::{ProductAlgebra, QuarticExtension};
 use mlu_lanes::{BabyBear, LaneWidth, Lanes, WrappingU64};
 use mlu_replay_calls::element::Element;
-use mlu_replay_calls::ops::{mixed, over_base, over_itself};
+use mlu_replay_calls::ops::{alone, extended, is_missing, mixed, over_itself};
 use mlu_replay_calls::words::Words;
 use mlu_replay_lines::fault::{Fault, Reason};
 use mlu_ring::{ExtensionField, Sample, SelfAlgebra};
@@ -27,8 +27,8 @@ macro_rules! over_rings {
     ($width:literal, $op:ident, $words:ident) => {
         match $words.word()? {
             "b" => residues::<$width>($op, $words),
-            "m" => quartics_over_residues::<$width>($op, $words),
-            "e" => over_base::<BabyBear<$width>, QuarticExtension<BabyBear<$width>>>($op, $words),
+            "m" => quartics_over_residues::<$width>(Group::Mixed, $op, $words),
+            "e" => quartics::<$width>($op, $words),
             "p0" => copies::<$width, 0>($op, $words),
             "p1" => copies::<$width, 1>($op, $words),
             "p8" => copies::<$width, 8>($op, $words),
@@ -95,8 +95,7 @@ fn found(
     }
 }
 
-// Each function below names its rings once for all widths (docs/DECISIONS.md, "Tests"); for quartics
-// over themselves the check would stop at its step limit.
+// Each function below names its rings once for all widths (docs/DECISIONS.md, "Tests").
 
 /// Over the residues modulo a prime.
 fn residues<const W: usize>(op: &str, words: &mut Words<'_>) -> Result<String, Fault>
@@ -124,9 +123,16 @@ where
     over_itself::<WrappingU64<W>>(op, words)
 }
 
+/// The calls on a ring and an extension of it, in the groups of docs/REPLAY.md.
+enum Group {
+    Mixed,
+    Extended,
+}
+
 /// Over the residues modulo a prime, with an extension of them. The bound names its field: a call with two
 /// types as parameters is more than the prover takes.
 fn over_residues<const W: usize, EF: ExtensionField<BabyBear<W>> + SelfAlgebra + Sample + Element>(
+    group: Group,
     op: &str,
     words: &mut Words<'_>,
 ) -> Result<String, Fault>
@@ -134,20 +140,45 @@ where
     Lanes<BabyBear<W>, W>: LaneWidth<W>,
     requires { W < 32 }
 {
-    if op == SWEEP {
-        let (alloc, most) = (words.alloc(), most_variables(words)?);
-        return found(alloc, sweep::<BabyBear<W>, EF>(alloc, most));
+    match group {
+        Group::Mixed if op == SWEEP => {
+            let (alloc, most) = (words.alloc(), most_variables(words)?);
+            found(alloc, sweep::<BabyBear<W>, EF>(alloc, most))
+        }
+        Group::Mixed => mixed::answer::<BabyBear<W>, EF>(op, words),
+        Group::Extended => extended::answer::<BabyBear<W>, EF>(op, words),
     }
-    mixed::answer::<BabyBear<W>, EF>(op, words)
 }
 
 /// Over the residues modulo a prime, with quartics over them.
-fn quartics_over_residues<const W: usize>(op: &str, words: &mut Words<'_>) -> Result<String, Fault>
+fn quartics_over_residues<const W: usize>(
+    group: Group,
+    op: &str,
+    words: &mut Words<'_>,
+) -> Result<String, Fault>
 where
     Lanes<BabyBear<W>, W>: LaneWidth<W>,
     requires { W < 32 }
 {
-    over_residues::<W, QuarticExtension<BabyBear<W>>>(op, words)
+    over_residues::<W, QuarticExtension<BabyBear<W>>>(group, op, words)
+}
+
+/// Over quartics, packed over the residues modulo a prime, or by themselves.
+fn quartics<const W: usize>(op: &str, words: &mut Words<'_>) -> Result<String, Fault>
+where
+    Lanes<BabyBear<W>, W>: LaneWidth<W>,
+    requires { W < 32 }
+{
+    let answer = quartics_over_residues::<W>(Group::Extended, op, words);
+    if is_missing(&answer) {
+        return quartics_alone::<W>(op, words);
+    }
+    answer
+}
+
+/// Over quartics by themselves.
+fn quartics_alone<const W: usize>(op: &str, words: &mut Words<'_>) -> Result<String, Fault> {
+    alone::<QuarticExtension<BabyBear<W>>>(op, words)
 }
 
 /// Over the residues modulo a prime, with products of `D` copies; of none, the ring of one element.
@@ -157,5 +188,5 @@ where
     requires width { W < 32 }
     requires few { D < 10 }
 {
-    over_residues::<W, ProductAlgebra<BabyBear<W>, D>>(op, words)
+    over_residues::<W, ProductAlgebra<BabyBear<W>, D>>(Group::Mixed, op, words)
 }

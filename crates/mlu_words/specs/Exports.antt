@@ -3,6 +3,8 @@ use Rattle.std.specs.Prelude.{ℕ, ⊤, Bool, List, Result}
 use Rattle.mlu_ring.specs.Ring.{Ring}
 use Rattle.mlu_words.specs.declared.fault.Fault.{Fault}
 use Rattle.mlu_words.specs.Calls.{Batches, Compresses, Evaluates, Folds, Proves, Tabulates, Verifies}
+use Rattle.mlu_words.specs.declared.calls.Call.{Call}
+use Rattle.mlu_words.specs.Named.{Gives}
 use Rattle.mlu_words.specs.Rings.{Base, Quartic, residue, coefficients, extension, embedded}
 
 -- an element of a table over the base field and of a point of the extension
@@ -36,3 +38,7 @@ ProvesExtension = Proves (coefficients 8) extension
 -- whether rounds of three elements of the extension each fit a claim at the challenges
 abbrev pub VerifiesExtension : List ℕ → List ℕ → List ℕ → List ℕ → List ℕ → Result Bool Fault → Type 0
 VerifiesExtension = Verifies (coefficients 8) extension
+
+-- a call that writes one output, by its name
+abbrev pub GivesExtension : Call → List ℕ → List ℕ → List ℕ → List ℕ → List ℕ → Result ⊤ Fault → Type 0
+GivesExtension = Gives (residue 8) (coefficients 8) extension embedded

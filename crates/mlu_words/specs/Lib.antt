@@ -4,5 +4,6 @@ pub mod Outcomes
 pub mod Operands
 pub mod Calls
 pub mod Rings
+pub mod Named
 pub mod Exports
 pub mod CodingLaws

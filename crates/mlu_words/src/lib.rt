@@ -8,6 +8,7 @@
 #![tactic(auto)]
 
 mod batches;
+mod calls;
 mod compression;
 mod evaluation;
 mod fault;

@@ -1,17 +1,18 @@
 //! The calls over the integers modulo 2013265921 and their extension of degree four.
 //!
-//! Each names its rings once, as all that these stand on is proved anew at each such name. What a call asks of
+//! Few functions name the rings, as all that these stand on is proved anew at each such name. What a call asks of
 //! its words is tested, by the definition that its clause names, and what it answers where they do not fit is the
 //! first [`Fault`]; the outputs are then as before. Elements of the extension are four words each.
 ghost use Rattle.mlu_ring.specs.Tables.{value};
 ghost use Rattle.mlu_words.specs.Calls.{embedded_compressed, embedded_value_at, folded, scaled_weights};
 ghost use Rattle.mlu_words.specs.Exports.{BatchesExtension, CompressesBase, EvaluatesBase, EvaluatesExtension};
-ghost use Rattle.mlu_words.specs.Exports.{FoldsExtension, ProvesExtension, TabulatesExtension, VerifiesExtension};
+ghost use Rattle.mlu_words.specs.Exports.{FoldsExtension, GivesExtension, ProvesExtension, TabulatesExtension, VerifiesExtension};
 
+use crate::calls::{self, Call};
 use crate::evaluation::Vertices;
 use crate::fault::Fault;
 use crate::operands::Variables;
-use crate::{batches, compression, evaluation, folds, sumcheck, tables};
+use crate::{folds, sumcheck, tables};
 use mlu_ext::QuarticExtension;
 use mlu_lanes::BabyBear;
 use mlu_point::point::BitOrder;
@@ -20,6 +21,20 @@ use std::alloc::Global;
 type Element = BabyBear<8>;
 
 type Extension = QuarticExtension<Element>;
+
+/// [`calls::make`] over the base field and the extension.
+fn make(
+    alloc: Global,
+    call: Call,
+    first: &[u32],
+    second: &[u32],
+    third: &[u32],
+    out: &mut [u32],
+) -> Result<(), Fault>
+    ensures { GivesExtension call first.now second.now third.now out.old out.new result }
+{
+    calls::make::<Element, Extension>(alloc, call, first, second, third, out)
+}
 
 /// The value of a table over the base field at a point of the extension, or the sum of the weight at the point
 /// of each vertex times the value at the next one: 2^n words, a point of n elements, one element.
@@ -32,14 +47,14 @@ pub fn eval_base(
 ) -> Result<(), Fault>
     ensures { EvaluatesBase (embedded_value_at vertices) table.now point.now out.old out.new result }
 {
-    evaluation::eval_base::<Element, Extension>(alloc, vertices, table, point, out)
+    make(alloc, Call::EvalBase(vertices), table, point, &[], out)
 }
 
 /// The value of a table over the extension at a point: 2^n elements, n elements, one element.
 pub fn eval_ext(alloc: Global, table: &[u32], point: &[u32], out: &mut [u32]) -> Result<(), Fault>
     ensures { EvaluatesExtension value table.now point.now out.old out.new result }
 {
-    evaluation::eval_ext::<Element, Extension>(alloc, table, point, out)
+    make(alloc, Call::EvalExt, table, point, &[], out)
 }
 
 /// The weights of all vertices at a point of the extension of n elements, in the order, each times a scale: 2^n
@@ -68,7 +83,7 @@ pub fn eval_eq_batch(
 ) -> Result<(), Fault>
     ensures { BatchesExtension adds values.now scalars.now out.old out.new result }
 {
-    batches::eval_eq_batch::<Element, Extension>(alloc, adds, values, scalars, out)
+    make(alloc, Call::EvalEqBatch(adds), values, scalars, &[], out)
 }
 
 /// A table over the extension with its first or its last variable at `r`, in the first half of its words. The
@@ -96,7 +111,7 @@ pub fn compress(
 ) -> Result<(), Fault>
     ensures { CompressesBase (embedded_compressed variables) table.now point.now scale.now out.old out.new result }
 {
-    compression::compress::<Element, Extension>(alloc, variables, table, point, scale, out)
+    make(alloc, Call::Compress(variables), table, point, scale, out)
 }
 
 /// The rounds of sumcheck over a table of the extension and the weights of a point, at challenges,

@@ -1,27 +1,32 @@
 //! The images of split tables in another ring.
 ghost use Rattle.std.specs.Prelude.{◌<◌, length};
 
-use crate::rings::{Word, residues_in_quartics, residues_in_words};
-use mlu_ring::{ExtensionField, MapFrom};
+use crate::rings::{Row, Word, quartics, residues_in_quartics, residues_in_words};
+use mlu_ring::{ExtensionField, Field, MapFrom};
 use mlu_test_support::numbers::{element, elements};
 use mlu_test_tables::point;
 use multilinear_util::split_eq::SplitEq;
 use std::alloc::{AllocError, Global};
 use std::test::Fail;
 
+/// A point, and 5 times its weights.
+pub const COORDINATES: [i32; 3] = [2, 3, 5];
+
+pub const IMAGES: [i32; 8] = [-40, 50, 60, -75, 80, -100, -120, 150];
+
 /// Whether 5 times the weights of the point have the images of these numbers.
-pub fn are_numbers<R: ExtensionField<R>, S: ExtensionField<S> + MapFrom<R>>(
+pub fn are_numbers<F: Field, R: ExtensionField<F>, S: ExtensionField<S> + MapFrom<R>>(
     alloc: Global,
     coordinates: &[i32],
     numbers: &[i32],
 ) -> Result<bool, AllocError>
     requires { length coordinates.now < 64 }
 {
-    are::<R, S>(alloc, coordinates, &elements::<S>(alloc, numbers)?)
+    are::<F, R, S>(alloc, coordinates, &elements::<S>(alloc, numbers)?)
 }
 
 /// Whether 5 times the weights of the point, in either storage, have these images.
-pub fn are<R: ExtensionField<R>, S: ExtensionField<S> + MapFrom<R>>(
+pub fn are<F: Field, R: ExtensionField<F>, S: ExtensionField<S> + MapFrom<R>>(
     alloc: Global,
     coordinates: &[i32],
     images: &[S],
@@ -29,18 +34,18 @@ pub fn are<R: ExtensionField<R>, S: ExtensionField<S> + MapFrom<R>>(
     requires { length coordinates.now < 64 }
 {
     let point = point::<R>(alloc, coordinates)?;
-    let unpacked = SplitEq::<R, R>::new_unpacked(alloc, &point, element(5));
-    if !has_images::<R, S>(alloc, unpacked, images)? {
+    let unpacked = SplitEq::<F, R>::new_unpacked(alloc, &point, element(5));
+    if !has_images::<F, R, S>(alloc, unpacked, images)? {
         return Ok(false);
     }
-    let packed = SplitEq::<R, R>::new_packed(alloc, &point, element(5));
-    has_images::<R, S>(alloc, packed, images)
+    let packed = SplitEq::<F, R>::new_packed(alloc, &point, element(5));
+    has_images::<F, R, S>(alloc, packed, images)
 }
 
 /// Whether the table that a call makes has these images, as scalars.
-fn has_images<R: ExtensionField<R>, S: ExtensionField<S> + MapFrom<R>>(
+fn has_images<F: Field, R: ExtensionField<F>, S: ExtensionField<S> + MapFrom<R>>(
     alloc: Global,
-    split: Result<SplitEq<R, R>, AllocError>,
+    split: Result<SplitEq<F, R>, AllocError>,
     images: &[S],
 ) -> Result<bool, AllocError> {
     gives_table(alloc, split?.to_field::<S>(alloc), images)
@@ -68,10 +73,16 @@ fn is_table<S: ExtensionField<S>>(
     Ok(split.materialize(alloc)?.as_slice() == entries)
 }
 
+/// Of weights that are packed over the residues.
+#[test]
+fn images_of_quartics(rt: HostRuntime) -> Result<(), Fail> {
+    assert!(rt; quartics(rt.alloc(), Row::Images)?);
+    Ok(())
+}
+
 #[test]
 fn images_in_quartics(rt: HostRuntime) -> Result<(), Fail> {
-    let images = [-40, 50, 60, -75, 80, -100, -120, 150];
-    assert!(rt; residues_in_quartics(rt.alloc(), &[2, 3, 5], &images)?);
+    assert!(rt; residues_in_quartics(rt.alloc(), &COORDINATES, &IMAGES)?);
     Ok(())
 }
 

@@ -11,61 +11,14 @@ use crate::splits::{SplitOperands, TableAndSplit, split_table};
 use crate::words::Words;
 use mlu_eq::EqMaybePacked;
 use mlu_replay_lines::fault::{Fault, Reason};
-use mlu_ring::{ExtensionField, Field, MapFrom, PackedValue};
+use mlu_ring::{ExtensionField, Field, PackedValue};
 use multilinear_util::point::Point;
 use multilinear_util::poly::{Poly, PolyMaybePacked};
 use multilinear_util::split_eq::SplitEq;
 use std::alloc::{AllocError, Global};
 
-/// These calls; the others are handed on.
-pub fn answer<
-    F: Field + Element,
-    EF: ExtensionField<F> + ExtensionField<EF> + MapFrom<EF> + Element,
->(op: &str, words: &mut Words<'_>) -> Result<String, Fault> {
-    match op {
-        "split.to_field" => {
-            let operands = words.stored_split::<EF>()?;
-            to_field::<F, EF>(words.alloc(), &operands)
-        }
-        _ => of_polynomial::<F, EF>(op, words),
-    }
-}
-
-/// The entries of the images of the halves by the identity.
-fn to_field<F: Field, EF: ExtensionField<F> + ExtensionField<EF> + MapFrom<EF> + Element>(
-    alloc: Global,
-    operands: &SplitOperands<EF>,
-) -> Result<String, Fault>
-    requires { 2 ^ length operands.now.point < 2 ^ 64 }
-{
-    let split = split_table::<F, EF>(alloc, operands)?;
-    materialized::<EF, EF>(alloc, images::<F, EF, EF>(alloc, &split))
-}
-
-/// The split table whose halves are the images, which has as many entries.
-fn images<F: Field, EF: ExtensionField<F>, R: ExtensionField<R> + MapFrom<EF>>(
-    alloc: Global,
-    split: &SplitEq<F, EF>,
-) -> Result<SplitEq<R, R>, AllocError>
-    requires { length (split_entries EF.ring split.now) < 2 ^ 64 }
-    ensures { IfOk result (λ images. length (split_entries R.ring images) < 2 ^ 64) }
-{
-    split.to_field::<R>(alloc)
-}
-
-/// All entries of a split table that a call gives.
-fn materialized<F: Field, EF: ExtensionField<F> + Element>(
-    alloc: Global,
-    split: Result<SplitEq<F, EF>, AllocError>,
-) -> Result<String, Fault>
-    requires { IfOk split (λ split. length (split_entries EF.ring split) < 2 ^ 64) }
-{
-    let split = split?;
-    table_word(alloc, split.materialize(alloc))
-}
-
 /// The calls on polynomials; the others are handed on.
-fn of_polynomial<F: Field + Element, EF: ExtensionField<F> + Element>(
+pub fn answer<F: Field + Element, EF: ExtensionField<F> + Element>(
     op: &str,
     words: &mut Words<'_>,
 ) -> Result<String, Fault> {

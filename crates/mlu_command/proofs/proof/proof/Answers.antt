@@ -22,14 +22,14 @@ new_unpacked-requires g c =
 
 pub returns-clause-rounds : goal.returns-clause-rounds
 returns-clause-rounds g c =
-    let ring = g.EF.Additive.ring in
-    let whole = at_one ring g.met.EF.Additive.laws c.ONE.result (weights ring c.args.point.now) _ (c.ONE.ensures ∙ g.met.EF.Additive.one_is) c.in_ok-split.ensures.value in
+    let ring = g.R.Additive.ring in
+    let whole = at_one ring g.met.R.Additive.laws c.ONE.result (weights ring c.args.point.now) _ (c.ONE.ensures ∙ g.met.R.Additive.one_is) c.in_ok-split.ensures.value in
     c.in_ok-rounds.ensures.rounds ∙ ap (λ w. rounds_of ring w c.args.table.now c.args.challenges.now) whole
 
 pub returns-clause-last : goal.returns-clause-last
 returns-clause-last g c =
-    let ring = g.EF.Additive.ring in
-    let whole = at_one ring g.met.EF.Additive.laws c.ONE.result (weights ring c.args.point.now) _ (c.ONE.ensures ∙ g.met.EF.Additive.one_is) c.in_ok-split.ensures.value in
+    let ring = g.R.Additive.ring in
+    let whole = at_one ring g.met.R.Additive.laws c.ONE.result (weights ring c.args.point.now) _ (c.ONE.ensures ∙ g.met.R.Additive.one_is) c.in_ok-split.ensures.value in
     let within : length c.args.challenges.now < length c.in_ok-rounds.field-0.claims.items = omega (arith, c.in_ok-rounds.ensures.number_of_claims) in
     c.index-last.ensures ∙ get_or_default c.in_ok-rounds.field-0.claims.items (length c.args.challenges.now) _ ring.zero within
     ∙ c.in_ok-rounds.ensures.last ∙ ap (λ w. product_of_values ring w c.args.table.now c.args.challenges.now) whole

@@ -14,9 +14,9 @@ new_packed-requires g c =
 
 pub returns : goal.returns
 returns g c =
-    let ring = g.EF.Additive.ring in
+    let ring = g.R.Additive.ring in
     let whole = split_entries ring c.in_ok-split.split in
     c.eval_base.ensures
-    ∙ ap (λ e. pair ring whole (map g.EF.Algebra.embed e)) c.as_view-view.ensures
-    ∙ pair-unit ring g.met.EF.Additive.laws c.ONE.result c.args.point.now whole (map g.EF.Algebra.embed c.args.table.now)
-    (c.ONE.ensures ∙ g.met.EF.Additive.one_is) c.in_ok-split.ensures.value
+    ∙ ap (λ e. pair ring whole (map g.R.Algebra.embed e)) c.as_view-view.ensures
+    ∙ pair-unit ring g.met.R.Additive.laws c.ONE.result c.args.point.now whole (map g.R.Algebra.embed c.args.table.now)
+    (c.ONE.ensures ∙ g.met.R.Additive.one_is) c.in_ok-split.ensures.value

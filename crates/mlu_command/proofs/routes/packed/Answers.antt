@@ -5,11 +5,11 @@ use Rattle.mlu_command.proofs.routes.packed.Goals as goal
 
 pub pack-requires : goal.pack-requires
 pack-requires g c =
-    let within = power_within g.F.Packing.PackedValue.LOG_WIDTH c.num_variables.result (omega (arith, c.LOG_WIDTH.ensures)) in
-    omega (arith, within, g.met.F.Packing.PackedValue.width_is, c.num_variables.ensures.value)
+    let within = power_within g.R.Packing.PackedValue.LOG_WIDTH c.num_variables.result (omega (arith, c.LOG_WIDTH.ensures)) in
+    omega (arith, within, g.met.R.Packing.PackedValue.width_is, c.num_variables.ensures.value)
 
 pub eval_packed-requires : goal.eval_packed-requires
 eval_packed-requires g c =
-    let lanes = g.EF.ExtensionPacking.PackedFieldExtension.ext_lanes in
-    let long = g.met.EF.ExtensionPacking.PackedFieldExtension.lanes_are.length-parts in
-    length-packed lanes g.F.Packing.PackedValue.WIDTH long c.in_ok-packed.packed c.args.table c.in_ok-packed.ensures ∙ c.requires
+    let lanes = g.R.ExtensionPacking.PackedFieldExtension.ext_lanes in
+    let long = g.met.R.ExtensionPacking.PackedFieldExtension.lanes_are.length-parts in
+    length-packed lanes g.R.Packing.PackedValue.WIDTH long c.in_ok-packed.packed c.args.table c.in_ok-packed.ensures ∙ c.requires
