@@ -15,6 +15,7 @@ use std::alloc::{AllocError, Global};
 ///
 /// # Errors
 /// Where memory is refused.
+#[tactic(auto, using(multilinear_util::proofs::Splits::half_fits))]
 pub fn proof<R: ExtensionField<R> + SelfAlgebra>(
     alloc: Global,
     table: &Poly<R>,

@@ -10,6 +10,7 @@ use multilinear_util::split_eq::SplitEq;
 use std::alloc::{AllocError, Global};
 
 /// The value by a split table of scalars.
+#[tactic(auto, using(multilinear_util::proofs::Splits::half_fits))]
 fn by_scalars<R: ExtensionField<R>>(
     alloc: Global,
     table: &Poly<R>,
@@ -24,6 +25,7 @@ fn by_scalars<R: ExtensionField<R>>(
 }
 
 /// The value by a split table that is packed where it is large enough.
+#[tactic(auto, using(multilinear_util::proofs::Splits::half_fits))]
 fn by_lanes<R: ExtensionField<R>>(
     alloc: Global,
     table: &Poly<R>,

@@ -148,10 +148,34 @@ pub fn run<F: Field, EF: ExtensionField<F> + SelfAlgebra>(
     ensures fit { IfOk result (λ t. Fit EF.ring t.claims.items t.rounds.items challenges.now) }
     ensures last { IfOk result (λ t. EndWithProduct EF.ring t.claims.items (split_entries EF.ring weights.now) poly.now challenges.now) }
 {
-    let variables = poly.num_variables();
     let first = weights.eval_ext(poly.as_view());
-    let mut poly = poly.try_clone(alloc)?;
-    let mut weights = weights.materialize(alloc)?;
+    let poly = poly.try_clone(alloc)?;
+    let weights = weights.materialize(alloc)?;
+    transcribe(alloc, poly, weights, first, challenges)
+}
+
+/// [`run`] on the weights in a table, where the sum of the products of both tables is `first`. The tables
+/// are folded in place.
+fn transcribe<EF: SelfAlgebra>(
+    alloc: Global,
+    mut poly: Poly<EF>,
+    mut weights: Poly<EF>,
+    first: EF,
+    challenges: &[EF],
+) -> Result<Transcript<EF>, AllocError>
+    requires poly_size { length poly ≡ 2 ^ length challenges.now }
+    requires weights_size { length weights ≡ 2 ^ length challenges.now }
+    requires sum { first ≡ pair EF.ring weights poly }
+    ensures number_of_rounds { IfOk result (λ t. length t.rounds.items ≡ length challenges.now) }
+    ensures number_of_claims { IfOk result (λ t. length t.claims.items ≡ suc (length challenges.now)) }
+    ensures exact_rounds { IfOk result (λ t. vec_capacity t.rounds ≡ length challenges.now) }
+    ensures exact_claims { IfOk result (λ t. vec_capacity t.claims ≡ suc (length challenges.now)) }
+    ensures first { IfOk result (λ t. BeginWithSum EF.ring t.claims.items weights poly) }
+    ensures rounds { IfOk result (λ t. t.rounds.items ≡ rounds_of EF.ring weights poly challenges.now) }
+    ensures fit { IfOk result (λ t. Fit EF.ring t.claims.items t.rounds.items challenges.now) }
+    ensures last { IfOk result (λ t. EndWithProduct EF.ring t.claims.items weights poly challenges.now) }
+{
+    let variables = poly.num_variables();
     let mut rounds = Vec::with_capacity(alloc, variables)?;
     let mut claims = Vec::with_capacity(alloc, variables + 1)?;
     claims.push_reserved(first);

@@ -97,6 +97,7 @@ fn in_rounds<E: Copy>(alloc: Global, elements: &[E]) -> Result<Vec<[E; 3]>, Allo
 
 /// The proof of a table and the weights of a point. Asks for as many coordinates and challenges as
 /// there are variables, and for rounds that fit the address space.
+#[tactic(auto, using(multilinear_util::proofs::Splits::half_fits))]
 fn prove<F: Field, EF: ExtensionField<F> + SelfAlgebra>(
     alloc: Global,
     table: &Poly<EF>,

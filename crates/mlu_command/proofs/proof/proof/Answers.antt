@@ -1,7 +1,6 @@
-use Rattle.std.proofs.Common.{◌≡◌, ◌^◌, ◌<◌, ◌≤◌, ◌∙◌, List, map, length, ap, arith}
+use Rattle.std.proofs.Common.{◌≡◌, ◌<◌, ◌∙◌, List, map, length, ap, arith}
 use Rattle.std.proofs.Math.Path.{fun_ext}
 use Rattle.std.proofs.lemmas.List.{map-id, get_or_default}
-use Rattle.multilinear_util.proofs.Splits.{half_fits}
 use Rattle.mlu_ring.specs.Ring.{Ring, RingLaws}
 use Rattle.mlu_ring.specs.Tables.{weights}
 use Rattle.mlu_sumcheck.specs.Rounds.{rounds_of, product_of_values}
@@ -13,12 +12,6 @@ at_one {R} ring laws one w split is_one is =
     let unit : (x : R) → ring.product one x ≡ x = λ x. ap (λ t. ring.product t x) is_one ∙ laws.one_product x in
     let same : ring.product one ≡ (λ x. x) = fun_ext unit in
     is ∙ ap (λ f. map f w) same ∙ map-id w
-
-pub new_unpacked-requires : goal.new_unpacked-requires
-new_unpacked-requires g c =
-    let counted : length c.args.table.now < 2 ^ 64 = omega (arith, c.num_evals-entries.ensures.value, c.num_evals-entries.type_inv) in
-    let whole : 2 ^ length c.args.point.now ≤ length c.args.table.now = omega (arith, c.requires.point) in
-    half_fits (length c.args.point.now) (length c.args.table.now) whole counted
 
 pub returns-clause-rounds : goal.returns-clause-rounds
 returns-clause-rounds g c =

@@ -1,16 +1,8 @@
-use Rattle.std.proofs.Common.{◌^◌, ◌<◌, ◌≤◌, ◌∙◌, map, length, ap, arith, rules}
+use Rattle.std.proofs.Common.{◌∙◌, map, ap}
 use Rattle.multilinear_util.specs.Split.{split_entries}
-use Rattle.multilinear_util.specs.Views.{entries}
 use Rattle.mlu_ring.specs.Tables.{pair}
-use Rattle.multilinear_util.proofs.Splits.{half_fits, pair-unit}
+use Rattle.multilinear_util.proofs.Splits.{pair-unit}
 use Rattle.mlu_command.proofs.routes.by_lanes.Goals as goal
-
-pub new_packed-requires : goal.new_packed-requires
-new_packed-requires g c =
-    let long : length (entries c.as_view-view.result) < 2 ^ 64 = search rules in
-    let same = ap length c.as_view-view.ensures in
-    let whole : 2 ^ length c.args.point.now ≤ length (entries c.as_view-view.result) = omega (arith, same, c.requires) in
-    half_fits (length c.args.point.now) (length (entries c.as_view-view.result)) whole long
 
 pub returns : goal.returns
 returns g c =

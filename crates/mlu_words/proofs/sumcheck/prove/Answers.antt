@@ -1,17 +1,10 @@
-use Rattle.std.proofs.Common.{◌^◌, ◌<◌, ◌≤◌, ◌∙◌, length, ap, refl, subst, arith}
+use Rattle.std.proofs.Common.{◌∙◌, length, ap, refl, subst}
 use Rattle.std.specs.Prelude.{flat_map}
 use Rattle.mlu_ring.specs.Tables.{pair, value, weights}
-use Rattle.multilinear_util.proofs.Splits.{half_fits}
 use Rattle.mlu_sumcheck.specs.Rounds.{rounds_of, round_at, Fit}
 use Rattle.mlu_words.proofs.Lengths.{length-joined}
 use Rattle.mlu_words.proofs.Scales.{at_one}
 use Rattle.mlu_words.proofs.sumcheck.prove.Goals as goal
-
-pub new_packed-requires : goal.new_packed-requires
-new_packed-requires g c =
-    let counted : length c.args.table.now < 2 ^ 64 = omega (arith, c.num_evals-entries.ensures.value, c.num_evals-entries.type_inv) in
-    let whole : 2 ^ length c.args.point.now ≤ length c.args.table.now = omega (arith, c.requires.point) in
-    half_fits (length c.args.point.now) (length c.args.table.now) whole counted
 
 pub returns-clause-rounds : goal.returns-clause-rounds
 returns-clause-rounds g c =

@@ -1,15 +1,14 @@
 use Rattle.std.proofs.Common.{◌≡◌, ◌+◌, suc, take}
 use Rattle.std.specs.Vec.{vec_capacity, vec_len}
 use Rattle.mlu_ring.proofs.Tabulated.{tabulate}
-use Rattle.multilinear_util.specs.Split.{split_entries}
 use Rattle.mlu_sumcheck.specs.Rounds.{folded, round_at}
 use Rattle.mlu_sumcheck.proofs.Chains.{claim_at}
-use Rattle.mlu_sumcheck.proofs.prover.run.Given as goal
+use Rattle.mlu_sumcheck.proofs.prover.transcribe.Given as goal
 
 abbrev pub invariant-loop-challenge : goal.invariant-loop-challenge
 invariant-loop-challenge g l =
     let ring = g.EF.Additive.ring in
-    let w = split_entries ring l.fn.weights in
+    let w = l.fn.weights in
     let e = l.fn.poly in
     let i = l.challenge-index in
     record {

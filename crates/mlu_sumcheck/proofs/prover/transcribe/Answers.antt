@@ -3,11 +3,10 @@ use Rattle.std.proofs.lemmas.Nat.{pow_pos}
 use Rattle.mlu_ring.specs.Tables.{front, line, pair, univariate}
 use Rattle.mlu_ring.proofs.PowersOfTwo.{power_injective}
 use Rattle.mlu_ring.proofs.Tabulated.{tabulate}
-use Rattle.multilinear_util.specs.Split.{split_entries}
 use Rattle.mlu_sumcheck.specs.Rounds.{round, folded, round_at}
 use Rattle.mlu_sumcheck.proofs.Folded.{halves-folded_at, folded-take_more}
 use Rattle.mlu_sumcheck.proofs.Chains.{claim_at, tabulate-pushed, round_at-next, length-transcript_rounds, length-transcript_claims, transcript-fit, transcript-last}
-use Rattle.mlu_sumcheck.proofs.prover.run.Goals as goal
+use Rattle.mlu_sumcheck.proofs.prover.transcribe.Goals as goal
 
 pub coefficients_of_claim-constant-requires-clause-sizes : goal.coefficients_of_claim-constant-requires-clause-sizes
 coefficients_of_claim-constant-requires-clause-sizes g c =
@@ -15,8 +14,8 @@ coefficients_of_claim-constant-requires-clause-sizes g c =
     let challenges = c.args.challenges.now in
     let i = c.loop-challenge.challenge-index in
     let below : i < length challenges = omega (arith, c.loop-challenge-test.true) in
-    let e = ap length (c.as_slice.ensures.value ∙ c.loop-challenge.invariant.poly) ∙ halves-folded_at ring challenges c.args.poly.now i c.requires.poly_size below in
-    let w = ap length (c.as_slice-in-loop-challenge.ensures.value ∙ c.loop-challenge.invariant.weights) ∙ halves-folded_at ring challenges (split_entries ring c.args.weights.now) i c.requires.weights_size below in
+    let e = ap length (c.as_slice.ensures.value ∙ c.loop-challenge.invariant.poly) ∙ halves-folded_at ring challenges c.args.poly i c.requires.poly_size below in
+    let w = ap length (c.as_slice-in-loop-challenge.ensures.value ∙ c.loop-challenge.invariant.weights) ∙ halves-folded_at ring challenges c.args.weights i c.requires.weights_size below in
     e ∙ sym w
 
 pub coefficients_of_claim-constant-requires-clause-halves : goal.coefficients_of_claim-constant-requires-clause-halves
@@ -24,7 +23,7 @@ coefficients_of_claim-constant-requires-clause-halves g c =
     let challenges = c.args.challenges.now in
     let i = c.loop-challenge.challenge-index in
     let below : i < length challenges = omega (arith, c.loop-challenge-test.true) in
-    let e = ap length (c.as_slice.ensures.value ∙ c.loop-challenge.invariant.poly) ∙ halves-folded_at g.EF.Additive.ring challenges c.args.poly.now i c.requires.poly_size below in
+    let e = ap length (c.as_slice.ensures.value ∙ c.loop-challenge.invariant.poly) ∙ halves-folded_at g.EF.Additive.ring challenges c.args.poly i c.requires.poly_size below in
     omega (arith, e)
 
 pub bind-requires-clause-sizes : goal.bind-requires-clause-sizes
@@ -33,8 +32,8 @@ bind-requires-clause-sizes g c =
     let challenges = c.args.challenges.now in
     let i = c.loop-challenge.challenge-index in
     let below : i < length challenges = omega (arith, c.loop-challenge-test.true) in
-    let e = ap length c.loop-challenge.invariant.poly ∙ halves-folded_at ring challenges c.args.poly.now i c.requires.poly_size below in
-    let w = ap length c.loop-challenge.invariant.weights ∙ halves-folded_at ring challenges (split_entries ring c.args.weights.now) i c.requires.weights_size below in
+    let e = ap length c.loop-challenge.invariant.poly ∙ halves-folded_at ring challenges c.args.poly i c.requires.poly_size below in
+    let w = ap length c.loop-challenge.invariant.weights ∙ halves-folded_at ring challenges c.args.weights i c.requires.weights_size below in
     e ∙ sym w
 
 pub bind-requires-clause-variable : goal.bind-requires-clause-variable
@@ -42,7 +41,7 @@ bind-requires-clause-variable g c =
     let challenges = c.args.challenges.now in
     let i = c.loop-challenge.challenge-index in
     let below : i < length challenges = omega (arith, c.loop-challenge-test.true) in
-    let e = ap length c.loop-challenge.invariant.poly ∙ halves-folded_at g.EF.Additive.ring challenges c.args.poly.now i c.requires.poly_size below in
+    let e = ap length c.loop-challenge.invariant.poly ∙ halves-folded_at g.EF.Additive.ring challenges c.args.poly i c.requires.poly_size below in
     omega (arith, e, pow_pos (length challenges - suc i))
 
 pub push_reserved-requires-in-loop-challenge : goal.push_reserved-requires-in-loop-challenge
@@ -57,8 +56,8 @@ loop-challenge-preserved g c =
     let ring = g.EF.Additive.ring in
     let laws = g.met.EF.Additive.laws in
     let challenges = c.args.challenges.now in
-    let w = split_entries ring c.args.weights.now in
-    let e = c.args.poly.now in
+    let w = c.args.weights in
+    let e = c.args.poly in
     let i = c.loop-challenge.challenge-index in
     let r = c.challenge-item.result in
     let invariant = c.loop-challenge.invariant in
@@ -85,13 +84,13 @@ pub returns-clause-number_of_rounds : goal.returns-clause-number_of_rounds
 returns-clause-number_of_rounds g c =
     let end : c.loop-challenge.challenge-index ≡ length c.args.challenges.now = omega (arith, c.loop-challenge-test.false) in
     let invariant = rw end at c.loop-challenge.invariant in
-    length-transcript_rounds g.EF.Additive.ring g.met.EF.Additive.laws (split_entries g.EF.Additive.ring c.args.weights.now) c.args.poly.now c.args.challenges.now c.requires.weights_size c.requires.poly_size _ _ invariant.rounds invariant.claims
+    length-transcript_rounds g.EF.Additive.ring g.met.EF.Additive.laws c.args.weights c.args.poly c.args.challenges.now c.requires.weights_size c.requires.poly_size _ _ invariant.rounds invariant.claims
 
 pub returns-clause-number_of_claims : goal.returns-clause-number_of_claims
 returns-clause-number_of_claims g c =
     let end : c.loop-challenge.challenge-index ≡ length c.args.challenges.now = omega (arith, c.loop-challenge-test.false) in
     let invariant = rw end at c.loop-challenge.invariant in
-    length-transcript_claims g.EF.Additive.ring g.met.EF.Additive.laws (split_entries g.EF.Additive.ring c.args.weights.now) c.args.poly.now c.args.challenges.now c.requires.weights_size c.requires.poly_size _ _ invariant.rounds invariant.claims
+    length-transcript_claims g.EF.Additive.ring g.met.EF.Additive.laws c.args.weights c.args.poly c.args.challenges.now c.requires.weights_size c.requires.poly_size _ _ invariant.rounds invariant.claims
 
 pub returns-clause-exact_rounds : goal.returns-clause-exact_rounds
 returns-clause-exact_rounds g c =
@@ -106,10 +105,10 @@ pub returns-clause-fit : goal.returns-clause-fit
 returns-clause-fit g c =
     let end : c.loop-challenge.challenge-index ≡ length c.args.challenges.now = omega (arith, c.loop-challenge-test.false) in
     let invariant = rw end at c.loop-challenge.invariant in
-    transcript-fit g.EF.Additive.ring g.met.EF.Additive.laws (split_entries g.EF.Additive.ring c.args.weights.now) c.args.poly.now c.args.challenges.now c.requires.weights_size c.requires.poly_size _ _ invariant.rounds invariant.claims
+    transcript-fit g.EF.Additive.ring g.met.EF.Additive.laws c.args.weights c.args.poly c.args.challenges.now c.requires.weights_size c.requires.poly_size _ _ invariant.rounds invariant.claims
 
 pub returns-clause-last : goal.returns-clause-last
 returns-clause-last g c =
     let end : c.loop-challenge.challenge-index ≡ length c.args.challenges.now = omega (arith, c.loop-challenge-test.false) in
     let invariant = rw end at c.loop-challenge.invariant in
-    transcript-last g.EF.Additive.ring g.met.EF.Additive.laws (split_entries g.EF.Additive.ring c.args.weights.now) c.args.poly.now c.args.challenges.now c.requires.weights_size c.requires.poly_size _ _ invariant.rounds invariant.claims
+    transcript-last g.EF.Additive.ring g.met.EF.Additive.laws c.args.weights c.args.poly c.args.challenges.now c.requires.weights_size c.requires.poly_size _ _ invariant.rounds invariant.claims
