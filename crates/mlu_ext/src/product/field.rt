@@ -7,7 +7,7 @@ ghost use Rattle.mlu_ext.specs.ProductMaps.{product-diagonal_entries};
 
 use super::ProductAlgebra;
 use mlu_lanes::{BabyBear, Coefficients, LaneWidth, Lanes};
-use mlu_ring::{ExtensionField, Field, Lanewise};
+use mlu_ring::{ExtensionField, Field, Lanewise, PackedValue};
 
 impl<const W: usize, const D: usize> Lanewise for ProductAlgebra<BabyBear<W>, D> {
     type Packing = Lanes<Self, 1>;
@@ -26,6 +26,16 @@ impl<const W: usize, const D: usize> Field for ProductAlgebra<BabyBear<W>, D> {
     #[inline]
     fn lanes_mul(a: Lanes<Self, 1>, b: Lanes<Self, 1>) -> Lanes<Self, 1> {
         a * b
+    }
+
+    #[inline]
+    fn lanes_times_fixed(p: Lanes<Self, 1>, factor: Lanes<Self, 1>) -> Lanes<Self, 1> {
+        p * factor
+    }
+
+    #[inline]
+    fn lanes_scale(p: Lanes<Self, 1>, c: Self) -> Lanes<Self, 1> {
+        p * Lanes::splat(c)
     }
 }
 

@@ -44,6 +44,11 @@ impl<const W: usize> Field for QuarticExtension<BabyBear<W>> {
     fn lanes_times_fixed(p: Lanes<Self, 1>, factor: Lanes<Self, 1>) -> Lanes<Self, 1> {
         Lanes::from_array([p.lane(0).times_fixed(factor.lane(0))])
     }
+
+    #[inline]
+    fn lanes_scale(p: Lanes<Self, 1>, c: Self) -> Lanes<Self, 1> {
+        p * Lanes::splat(c)
+    }
 }
 
 impl<const W: usize> ExtensionField<BabyBear<W>> for QuarticExtension<BabyBear<W>>

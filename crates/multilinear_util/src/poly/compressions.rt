@@ -22,6 +22,7 @@ impl<F: Field> PolyView<'_, F> {
     ///
     /// # Errors
     /// Where memory is refused.
+    #[tactic(auto, using(crate::proofs::Splits::half_fits))]
     pub fn compress_prefix<EF: ExtensionField<F>>(
         &self,
         alloc: Global,
@@ -41,6 +42,7 @@ impl<F: Field> PolyView<'_, F> {
     ///
     /// # Errors
     /// Where memory is refused.
+    #[tactic(auto, using(crate::proofs::Splits::lanes_half_fits))]
     pub fn compress_prefix_to_packed<EF: ExtensionField<F>>(
         &self,
         alloc: Global,
@@ -64,6 +66,7 @@ impl<F: Field> PolyView<'_, F> {
     ///
     /// # Errors
     /// Where memory is refused.
+    #[tactic(auto, using(crate::proofs::Splits::half_fits))]
     pub fn compress_suffix<EF: ExtensionField<F>>(
         &self,
         alloc: Global,

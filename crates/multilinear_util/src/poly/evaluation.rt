@@ -66,6 +66,7 @@ impl<F: Field> PolyView<'_, F> {
     /// # Errors
     /// Where memory is refused, but never below 9 variables where a value of the table takes at most
     /// 4 bytes, else never below 10.
+    #[tactic(auto, using(crate::proofs::Splits::half_fits))]
     pub fn eval_base<EF: ExtensionField<F>>(
         &self,
         alloc: Global,
@@ -105,6 +106,7 @@ impl<F: Field> PolyView<'_, F> {
     ///
     /// # Errors
     /// Where memory is refused.
+    #[tactic(auto, using(crate::proofs::Splits::half_fits))]
     pub fn eval_next_base_by<EF: ExtensionField<F>>(
         &self,
         alloc: Global,
@@ -124,6 +126,7 @@ impl<F: Field> PolyView<'_, F> {
     /// # Errors
     /// Where memory is refused, but never below 9 variables where an element of `BaseField` takes at
     /// most 4 bytes, else never below 10.
+    #[tactic(auto, using(crate::proofs::Splits::half_fits))]
     pub fn eval_ext<BaseField: Field>(
         &self,
         alloc: Global,

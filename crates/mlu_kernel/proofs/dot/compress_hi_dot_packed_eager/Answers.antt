@@ -3,13 +3,10 @@ use Rattle.std.proofs.lemmas.List.{take_all}
 use Rattle.mlu_ring.specs.Lanes.{logical}
 use Rattle.mlu_ring.specs.Tables.{pair}
 use Rattle.mlu_ring.proofs.Logical.{length-logical}
-use Rattle.mlu_ring.proofs.Rows.{length-row_of, map-row_of}
+use Rattle.mlu_ring.proofs.Rows.{map-row_of}
 use Rattle.mlu_kernel.specs.Kernels.{double_sum}
 use Rattle.mlu_kernel.proofs.DoubleSums.{double_sum-none, double_sum_step}
 use Rattle.mlu_kernel.proofs.dot.compress_hi_dot_packed_eager.Goals as goal
-
-pub row_dot_in_lanes-dot-requires : goal.row_dot_in_lanes-dot-requires
-row_dot_in_lanes-dot-requires g c = ap length c.row_of.ensures.row ∙ length-row_of c.args.chunk.now _ _ c.loop-j.j c.loop-j-test.true c.requires
 
 pub loop-j-init : goal.loop-j-init
 loop-j-init g c =

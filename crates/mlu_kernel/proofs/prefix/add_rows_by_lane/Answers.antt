@@ -2,18 +2,10 @@ use Rattle.std.proofs.Common.{◌<◌, ◌≤◌, ◌*◌, ◌∷◌, [], ◌∙
 use Rattle.std.proofs.lemmas.List.{take_all}
 use Rattle.mlu_ring.specs.Lanes.{logical}
 use Rattle.mlu_ring.proofs.Logical.{length-logical}
-use Rattle.mlu_ring.proofs.Rows.{length-row_of, map-row_of}
+use Rattle.mlu_ring.proofs.Rows.{map-row_of}
 use Rattle.mlu_kernel.specs.Kernels.{plus_rows}
 use Rattle.mlu_kernel.proofs.PlusRows.{plus_rows-none, plus_rows-take_more}
 use Rattle.mlu_kernel.proofs.prefix.add_rows_by_lane.Goals as goal
-
-pub add_row_times-requires : goal.add_row_times-requires
-add_row_times-requires g c =
-    let n = g.F.Packing.PackedValue.WIDTH in
-    let within : c.loop-k.k < c.WIDTH.result = omega (arith, c.WIDTH.ensures) in
-    ap length c.row_of.ensures.row
-    ∙ length-row_of c.args.rows.now c.WIDTH.result (length c.args.out.now * n) c.loop-k.k within (c.requires ∙ ap (λ k. k * (length c.args.out.now * n)) (sym c.WIDTH.ensures))
-    ∙ ap (λ k. k * n) (sym c.loop-k.auto.out)
 
 pub loop-k-init : goal.loop-k-init
 loop-k-init g c =

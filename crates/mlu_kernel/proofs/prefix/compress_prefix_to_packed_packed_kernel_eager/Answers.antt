@@ -3,17 +3,10 @@ use Rattle.std.proofs.lemmas.List.{take_all}
 use Rattle.mlu_ring.specs.Lanes.{logical}
 use Rattle.mlu_ring.specs.Matrices.{row_at}
 use Rattle.mlu_ring.proofs.Logical.{length-logical}
-use Rattle.mlu_ring.proofs.Rows.{length-row_of, map-row_of}
+use Rattle.mlu_ring.proofs.Rows.{map-row_of}
 use Rattle.mlu_kernel.specs.Kernels.{plus_rows}
 use Rattle.mlu_kernel.proofs.PlusRows.{plus_rows-none, rows_more}
 use Rattle.mlu_kernel.proofs.prefix.compress_prefix_to_packed_packed_kernel_eager.Goals as goal
-
-pub add_rows_by_lane-requires : goal.add_rows_by_lane-requires
-add_rows_by_lane-requires g c =
-    let n = g.F.Packing.PackedValue.WIDTH in
-    ap length c.row_of.ensures.row
-    ∙ length-row_of c.args.chunk.now (length c.args.eq1.now) (n * (length c.args.out.now * n)) c.loop-i.i c.loop-i-test.true c.requires
-    ∙ ap (λ k. n * (k * n)) (sym c.loop-i.auto.out)
 
 pub loop-i-init : goal.loop-i-init
 loop-i-init g c =

@@ -4,12 +4,9 @@ use Rattle.mlu_ring.specs.Successor.{shifted}
 use Rattle.mlu_point.specs.Rules.{next_by}
 use Rattle.mlu_eq.proofs.Lengths.{positive_of_test}
 use Rattle.multilinear_util.specs.Split.{split_entries}
-use Rattle.multilinear_util.proofs.Splits.{halves-entries, halves-size}
+use Rattle.multilinear_util.proofs.Splits.{halves-entries}
 use Rattle.multilinear_util.proofs.Successors.{sum-next}
 use Rattle.multilinear_util.proofs.split_eq.SplitEq.eval_next_base_by.Goals as goal
-
-pub dot_base_shifted-steps-requires : goal.dot_base_shifted-steps-requires
-dot_base_shifted-steps-requires g c = halves-size g.EF.Additive.ring c.args.self.now c.halves.result.0.now c.halves.result.1.now c.halves.ensures.first c.halves.ensures.second _ (ap length c.as_slice-values.ensures.value ∙ c.requires)
 
 pub returns : goal.returns
 returns g c =

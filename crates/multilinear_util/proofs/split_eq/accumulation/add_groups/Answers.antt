@@ -5,11 +5,6 @@ use Rattle.mlu_ring.proofs.Logical.{length-logical, zip_block_more}
 use Rattle.mlu_ring.proofs.Zips.{zip_whole}
 use Rattle.multilinear_util.proofs.split_eq.accumulation.add_groups.Goals as goal
 
-pub from_ext_slice-group-requires : goal.from_ext_slice-group-requires
-from_ext_slice-group-requires g c =
-    let n = g.F.Packing.PackedValue.WIDTH in
-    c.row_of.ensures.size n (c.requires ∙ ap (λ k. k * n) (sym c.loop-i.auto.out))
-
 pub loop-i-preserved : goal.loop-i-preserved
 loop-i-preserved g c =
     let ring = g.EF.Additive.ring in

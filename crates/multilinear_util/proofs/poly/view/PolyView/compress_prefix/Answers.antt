@@ -1,4 +1,4 @@
-use Rattle.std.proofs.Common.{◌≡◌, ◌∙◌, map, length, ap, rules}
+use Rattle.std.proofs.Common.{◌≡◌, ◌∙◌, map, length, ap}
 use Rattle.std.proofs.lemmas.List.{length-map}
 use Rattle.mlu_ring.specs.Tables.{front, weights}
 use Rattle.multilinear_util.specs.Compressions.{prefix_compressed, IsJoinedAfter}
@@ -6,11 +6,7 @@ use Rattle.multilinear_util.specs.Split.{split_entries}
 use Rattle.multilinear_util.specs.Views.{entries}
 use Rattle.multilinear_util.proofs.Outcomes.{ok_more}
 use Rattle.multilinear_util.proofs.Scaled.{front-scaled, value-compressed_prefix}
-use Rattle.multilinear_util.proofs.Splits.{half_fits}
 use Rattle.multilinear_util.proofs.poly.view.PolyView.compress_prefix.Goals as goal
-
-pub new_packed-requires : goal.new_packed-requires
-new_packed-requires g c = half_fits (length c.args.point.now) (length (entries c.args.self.now)) c.requires (search rules)
 
 pub returns-clause-value : goal.returns-clause-value
 returns-clause-value g c =

@@ -1,16 +1,11 @@
-use Rattle.std.proofs.Common.{◌∙◌, map, length, ap, rules}
+use Rattle.std.proofs.Common.{◌∙◌, map, ap}
 use Rattle.mlu_ring.specs.Tables.{front, weights}
 use Rattle.multilinear_util.specs.Compressions.{prefix_compressed, Holds}
 use Rattle.multilinear_util.specs.Split.{split_entries}
 use Rattle.multilinear_util.specs.Views.{entries}
 use Rattle.multilinear_util.proofs.Outcomes.{ok_more}
 use Rattle.multilinear_util.proofs.Scaled.{front-scaled}
-use Rattle.multilinear_util.proofs.Splits.{lanes_half_fits}
 use Rattle.multilinear_util.proofs.poly.view.PolyView.compress_prefix_to_packed.Goals as goal
-
-pub new_packed-requires : goal.new_packed-requires
-new_packed-requires g c =
-    lanes_half_fits (length c.args.point.now) g.F.Packing.PackedValue.WIDTH g.F.Packing.PackedValue.LOG_WIDTH (length (entries c.args.self.now)) g.met.F.Packing.PackedValue.width_is c.requires (search rules)
 
 pub returns : goal.returns
 returns g c =

@@ -1,13 +1,8 @@
-use Rattle.std.proofs.Common.{◌^◌, ◌≤◌, ◌∙◌, length, arith, rules}
+use Rattle.std.proofs.Common.{◌∙◌}
 use Rattle.multilinear_util.specs.Split.{split_entries}
 use Rattle.multilinear_util.specs.Views.{entries}
-use Rattle.multilinear_util.proofs.Splits.{half_fits, pair-unit}
+use Rattle.multilinear_util.proofs.Splits.{pair-unit}
 use Rattle.multilinear_util.proofs.poly.view.PolyView.eval_ext.Goals as goal
-
-pub new_unpacked-requires : goal.new_unpacked-requires
-new_unpacked-requires g c =
-    let whole : 2 ^ length c.args.point.now ≤ length (entries c.args.self.now) = omega (arith, c.requires) in
-    half_fits (length c.args.point.now) (length (entries c.args.self.now)) whole (search rules)
 
 pub returns-clause-value : goal.returns-clause-value
 returns-clause-value g c =
