@@ -1,3 +1,4 @@
 pub mod Counts
 pub mod Decimals
+pub mod Packing
 pub mod Texts

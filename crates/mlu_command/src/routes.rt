@@ -41,6 +41,7 @@ fn by_lanes<R: ExtensionField<R>>(
 
 /// The value of the packed table, or of the table as it is where it has fewer variables than a
 /// packing.
+#[tactic(auto, using(crate::proofs::Packing::fills_a_packing, crate::proofs::Packing::lanes_of_packed))]
 fn packed<R: ExtensionField<R>>(
     alloc: Global,
     table: Poly<R>,

@@ -1,5 +1,6 @@
 //! The inputs of the calls.
 ghost use Rattle.std.specs.Prelude.{◌≡◌, ◌-◌, ◌*◌, ◌/◌, ◌^◌, ◌<◌, length, IfOk};
+ghost use Rattle.std.specs.Mem.{type_size};
 ghost use Rattle.multilinear_util.specs.Split.{split_entries};
 
 use mlu_point::point::Point;
@@ -101,10 +102,12 @@ pub fn split<R: ExtensionField<R>>(
     }
 }
 
-/// Whether the table has the weights of the point (2, 3, 5), which are added to `zeros`.
-pub fn has_weights<R: ExtensionField<R>>(split: &SplitEq<R, R>, zeros: &mut [R]) -> bool
-    requires { length zeros.old ≡ length (split_entries R.ring split.now) }
+/// Whether the table has the weights of the point (2, 3, 5).
+pub fn has_weights<R: ExtensionField<R>>(split: &SplitEq<R, R>) -> bool
+    requires size { length (split_entries R.ring split.now) ≡ 8 }
+    requires eight_fit { 8 * type_size R.row < 2 ^ 63 }
 {
-    split.accumulate_into(zeros, None);
-    are(zeros, &WEIGHTS)
+    let mut sums = [R::ZERO; 8];
+    split.accumulate_into(&mut sums, None);
+    are(&sums, &WEIGHTS)
 }

@@ -1,7 +1,8 @@
 //! All calls, at residues, and evaluations at words too, whose threshold is another; those of the programs as they are.
 //!
 //! This file alone names rings, since each function that does takes long to prove.
-ghost use Rattle.std.specs.Prelude.{◌≡◌};
+ghost use Rattle.std.specs.Mem.{type_size};
+ghost use Rattle.std.specs.Prelude.{◌≡◌, ◌*◌, ◌<◌, ◌^◌};
 
 use crate::calls::Call;
 use crate::outcome::Outcome;
@@ -20,6 +21,7 @@ fn made<R: ExtensionField<R> + Sample + SelfAlgebra + MapFrom<R>>(
 ) -> Result<Outcome, AllocError>
     requires lanes { R.Packing.WIDTH ≡ 4 }
     requires log_lanes { R.Packing.LOG_WIDTH ≡ 2 }
+    requires eight_fit { 8 * type_size R.row < 2 ^ 63 }
 {
     match call {
         Call::Batch(call) => batches::made::<R>(alloc, call),

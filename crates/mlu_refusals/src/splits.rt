@@ -1,5 +1,6 @@
 //! Split tables of the point (2, 3, 5) and the calls through them.
-ghost use Rattle.std.specs.Prelude.{◌≡◌, length};
+ghost use Rattle.std.specs.Mem.{type_size};
+ghost use Rattle.std.specs.Prelude.{◌≡◌, ◌*◌, ◌<◌, ◌^◌, length};
 ghost use Rattle.multilinear_util.specs.Split.{split_entries};
 
 use crate::answers::{gives, gives_poly, has_lanes};
@@ -8,7 +9,7 @@ use crate::calls::Call::Split;
 use crate::given::Half::{self, Lanes, Scalars};
 use crate::given::{WEIGHTS, counted, has_weights, is_counted, packed, point, split};
 use crate::outcome::{Outcome, judge};
-use mlu_ring::{Additive, ExtensionField, Field, MapFrom, PrimeCharacteristicRing};
+use mlu_ring::{ExtensionField, Field, MapFrom, PrimeCharacteristicRing};
 use mlu_test_support::numbers::{element, elements};
 use multilinear_util::poly::Poly;
 use multilinear_util::split_eq::SplitEq;
@@ -54,10 +55,10 @@ pub fn made<R: ExtensionField<R> + MapFrom<R>>(
     half: Half,
     call: Call,
 ) -> Result<Outcome, AllocError>
-    requires { R.Packing.WIDTH ≡ 4 }
+    requires lanes { R.Packing.WIDTH ≡ 4 }
+    requires eight_fit { 8 * type_size R.row < 2 ^ 63 }
 {
     let point = point::<R>(alloc, &[2, 3, 5])?;
-    let mut zeros = R::zero_vec(alloc, 8)?;
     let table = split::<R>(alloc, half, &point)?;
     let answered = match call {
         Call::New => gives_table(split(alloc, half, &point)),
@@ -66,21 +67,20 @@ pub fn made<R: ExtensionField<R> + MapFrom<R>>(
         Call::ToField => gives_table(table.to_field::<R>(alloc)),
         Call::Materialize => gives_poly(table.materialize(alloc), &WEIGHTS),
         Call::AccumulateIntoPacked => return accumulate_into_packed(alloc, &table),
-        _ => return on_values(alloc, &table, zeros.as_mut_slice(), call),
+        _ => return on_values(alloc, &table, call),
     };
-    Ok(judge(answered, has_weights(&table, zeros.as_mut_slice())))
+    Ok(judge(answered, has_weights(&table)))
 }
 
 /// What becomes of a call on the table and the values 1, 2, .., 8, after which both are as before.
 fn on_values<R: ExtensionField<R>>(
     alloc: Global,
     table: &SplitEq<R, R>,
-    zeros: &mut [R],
     call: Call,
 ) -> Result<Outcome, AllocError>
     requires lanes { R.Packing.WIDTH ≡ 4 }
     requires table { length (split_entries R.ring table.now) ≡ 8 }
-    requires zeros { length zeros.old ≡ 8 }
+    requires eight_fit { 8 * type_size R.row < 2 ^ 63 }
 {
     let poly = counted::<R>(alloc, 8)?;
     let answered = match call {
@@ -91,7 +91,7 @@ fn on_values<R: ExtensionField<R>>(
             gives(table.eval_packed(alloc, packed.as_view()), 20)
         }
     };
-    Ok(judge(answered, has_weights(table, zeros) && is_counted(&poly, 8)))
+    Ok(judge(answered, has_weights(table) && is_counted(&poly, 8)))
 }
 
 /// Whether the call gives a table of three variables that ends with the weight 30.

@@ -1,6 +1,7 @@
 //! The proof of sumcheck over the polynomial with the values 1, 2, .., 8 and the table of the point
 //! (2, 3, 5), at that point.
-ghost use Rattle.std.specs.Prelude.{◌≡◌, length};
+ghost use Rattle.std.specs.Mem.{type_size};
+ghost use Rattle.std.specs.Prelude.{◌≡◌, ◌*◌, ◌<◌, ◌^◌, length};
 ghost use Rattle.multilinear_util.specs.Split.{split_entries};
 
 use crate::given::Half::Scalars;
@@ -14,15 +15,14 @@ use multilinear_util::split_eq::SplitEq;
 use std::alloc::{AllocError, Global};
 
 /// What becomes of the proof. Fails where its inputs are refused.
-pub fn made<R: ExtensionField<R> + SelfAlgebra>(alloc: Global) -> Result<Outcome, AllocError> {
+pub fn made<R: ExtensionField<R> + SelfAlgebra>(alloc: Global) -> Result<Outcome, AllocError>
+    requires { 8 * type_size R.row < 2 ^ 63 }
+{
     let poly = counted::<R>(alloc, 8)?;
     let point = point::<R>(alloc, &[2, 3, 5])?;
-    let mut zeros = R::zero_vec(alloc, 8)?;
     let weights = split::<R>(alloc, Scalars, &point)?;
     let answered = proved(alloc, &poly, &weights, point.as_slice());
-    let kept = has_weights(&weights, zeros.as_mut_slice())
-        && is_counted(&poly, 8)
-        && are(point.as_slice(), &[2, 3, 5]);
+    let kept = has_weights(&weights) && is_counted(&poly, 8) && are(point.as_slice(), &[2, 3, 5]);
     Ok(judge(answered, kept))
 }
 

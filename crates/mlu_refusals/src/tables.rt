@@ -1,6 +1,5 @@
 //! Compressions of a polynomial by the table of a shorter point, plain, shifted and in two runs.
-ghost use Rattle.std.specs.Prelude.{◌≡◌, ◌*◌, ◌≤◌, length};
-ghost use Rattle.multilinear_util.specs.Split.{split_entries};
+ghost use Rattle.std.specs.Prelude.{◌≡◌, ◌*◌, ◌<◌, ◌≤◌, ◌^◌, length};
 
 use crate::answers::{gives_lanes, gives_poly};
 use crate::calls;
@@ -9,8 +8,6 @@ use crate::given::Half::Scalars;
 use crate::given::{counted, is_counted, point, split};
 use crate::outcome::{Outcome, judge};
 use mlu_ring::{ExtensionField, Field};
-use multilinear_util::poly::Poly;
-use multilinear_util::split_eq::SplitEq;
 use std::alloc::{AllocError, Global};
 
 /// The calls that this file makes.
@@ -43,26 +40,25 @@ pub fn made<R: ExtensionField<R>>(alloc: Global, call: Call) -> Result<Outcome, 
 {
     match call {
         Call::PrefixToPacked | Call::PrefixShifted | Call::SuffixShifted => {
-            let split = split::<R>(alloc, Scalars, &point(alloc, &[2])?)?;
-            compressed(alloc, call, &counted(alloc, 8)?, &split)
+            made_on::<R>(alloc, call, &[2], 8)
         }
-        _ => {
-            let split = split::<R>(alloc, Scalars, &point(alloc, &[2, 2])?)?;
-            compressed(alloc, call, &counted(alloc, 16)?, &split)
-        }
+        _ => made_on::<R>(alloc, call, &[2, 2], 16),
     }
 }
 
-/// The same, for this polynomial and this table.
-fn compressed<R: ExtensionField<R>>(
+/// The same, for the table of this point and a polynomial of so many entries.
+fn made_on<R: ExtensionField<R>>(
     alloc: Global,
     call: Call,
-    poly: &Poly<R>,
-    split: &SplitEq<R, R>,
+    coordinates: &[i32],
+    entries: usize,
 ) -> Result<Outcome, AllocError>
     requires lanes { R.Packing.WIDTH ≡ 4 }
-    requires sizes { length (split_entries R.ring split.now) * 4 ≤ length poly.now }
+    requires few { length coordinates.now < 3 }
+    requires sizes { 2 ^ length coordinates.now * 4 ≤ entries }
 {
+    let poly = counted::<R>(alloc, entries)?;
+    let split = split::<R>(alloc, Scalars, &point(alloc, coordinates)?)?;
     let view = poly.as_view();
     let answered = match call {
         Call::PrefixToPacked => {
@@ -90,5 +86,5 @@ fn compressed<R: ExtensionField<R>>(
             gives_poly(left, &[-39, -42, -45, -48])
         }
     };
-    Ok(judge(answered, is_counted(poly, poly.num_evals())))
+    Ok(judge(answered, is_counted(&poly, entries)))
 }

@@ -1,6 +1,7 @@
 //! Calls that ask for no memory, so that they do not fail whichever allocation is refused.
 ghost use Rattle.std.specs.Prelude.{◌≡◌};
 
+use crate::answers::has_lanes;
 use crate::calls;
 use crate::calls::Call::Unfailing;
 use crate::given::{WEIGHTS, counted, is_counted, point};
@@ -10,11 +11,10 @@ use mlu_point::eq_batch::{
 };
 use mlu_point::point::{BitOrder, Point, PointView};
 use mlu_ring::{
-    Additive, ExtensionField, Field, PackedFieldExtension, PrimeCharacteristicRing,
-    RowMajorMatrixView, Sample, Unmetered,
+    Additive, ExtensionField, Field, PrimeCharacteristicRing, RowMajorMatrixView, Sample, Unmetered,
 };
 use mlu_test_support::numbers::{are, element, elements};
-use multilinear_util::poly::{PolyMaybePacked, PolyView};
+use multilinear_util::poly::{Poly, PolyMaybePacked};
 use multilinear_util::split_eq::SplitEq;
 use rand_pcg::Pcg32;
 use std::alloc::{AllocError, Global};
@@ -30,6 +30,9 @@ pub enum Call {
     Scalars,
     SplitInLanes,
 }
+
+/// The weights of the point (2, 2, 2, 2).
+const WEIGHTS_OF_TWOS: [i32; 16] = [1, -2, -2, 4, -2, 4, 4, -8, -2, 4, 4, -8, 4, -8, -8, 16];
 
 /// The call with this name.
 pub fn named(name: &str) -> Option<calls::Call> {
@@ -126,14 +129,9 @@ fn split_in_lanes<R: ExtensionField<R>>(alloc: Global) -> Result<Outcome, AllocE
 {
     let point = point::<R>(alloc, &[2; 4])?;
     let split = SplitEq::<R, R>::new_packed(alloc, &point, R::ONE)?;
-    let mut out: Vec<R::ExtensionPacking> = elements(alloc, &[0; 4])?;
-    let done = split.accumulate_into_packed(alloc, out.as_mut_slice(), None);
-    let last = R::ExtensionPacking::to_ext_iter(out.as_slice()).last();
-    let added = done.is_ok() && last == Some(element(16));
-    let sums = out.as_slice();
-    if !sums.len().is_power_of_two() {
-        return Err(AllocError);
-    }
-    let squares = split.eval_packed(alloc, PolyView::new(sums));
+    let mut sums: Poly<R::ExtensionPacking> = Poly::zero(alloc, 2)?;
+    let done = split.accumulate_into_packed(alloc, sums.as_mut_slice(), None);
+    let added = done.is_ok() && has_lanes::<R>(sums.as_slice(), &WEIGHTS_OF_TWOS);
+    let squares = split.eval_packed(alloc, sums.as_view());
     Ok(judge(Ok(added), squares == Ok(element(625))))
 }
