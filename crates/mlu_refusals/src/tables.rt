@@ -1,5 +1,6 @@
 //! Compressions of a polynomial by the table of a shorter point, plain, shifted and in two runs.
 ghost use Rattle.std.specs.Prelude.{◌≡◌, ◌*◌, ◌<◌, ◌≤◌, ◌^◌, length};
+ghost use Rattle.multilinear_util.specs.Split.{split_entries};
 
 use crate::answers::{gives_lanes, gives_poly};
 use crate::calls;
@@ -8,6 +9,8 @@ use crate::given::Half::Scalars;
 use crate::given::{counted, is_counted, point, split};
 use crate::outcome::{Outcome, judge};
 use mlu_ring::{ExtensionField, Field};
+use multilinear_util::poly::Poly;
+use multilinear_util::split_eq::SplitEq;
 use std::alloc::{AllocError, Global};
 
 /// The calls that this file makes.
@@ -59,8 +62,22 @@ fn made_on<R: ExtensionField<R>>(
 {
     let poly = counted::<R>(alloc, entries)?;
     let split = split::<R>(alloc, Scalars, &point(alloc, coordinates)?)?;
+    let answered = compressed(alloc, call, &poly, &split);
+    Ok(judge(answered, is_counted(&poly, entries)))
+}
+
+/// Whether the call gives what it is to give, of this polynomial by this table.
+fn compressed<R: ExtensionField<R>>(
+    alloc: Global,
+    call: Call,
+    poly: &Poly<R>,
+    split: &SplitEq<R, R>,
+) -> Result<bool, AllocError>
+    requires lanes { R.Packing.WIDTH ≡ 4 }
+    requires sizes { length (split_entries R.ring split.now) * 4 ≤ length poly.now }
+{
     let view = poly.as_view();
-    let answered = match call {
+    match call {
         Call::PrefixToPacked => {
             let left = split.compress_prefix_to_packed(alloc, view);
             gives_lanes::<R>(left, &[9, 10, 11, 12])
@@ -85,6 +102,5 @@ fn made_on<R: ExtensionField<R>>(
             let left = split.compress_prefix_shifted_split(alloc, view, 2);
             gives_poly(left, &[-39, -42, -45, -48])
         }
-    };
-    Ok(judge(answered, is_counted(&poly, entries)))
+    }
 }
