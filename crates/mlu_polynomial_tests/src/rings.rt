@@ -9,7 +9,7 @@ use crate::polynomials::images;
 use crate::{examples, polynomials, printed, slices, sumcheck};
 use mlu_ext::QuarticExtension;
 use mlu_lanes::{BabyBear, WrappingU64};
-use mlu_ring::{ExtensionField, Field, MapFrom, Sample, SelfAlgebra};
+use mlu_ring::{ExtensionField, MapFrom, Sample, SelfAlgebra};
 use std::alloc::{AllocError, Global};
 use std::fmt::Debug;
 
@@ -27,6 +27,8 @@ pub enum Row {
     BatchInChunks,
     /// The images of a split table in its own ring.
     Images,
+    /// The images, in the extension, of a split table over the ring below it.
+    ImagesOfBase,
     Polynomials(polynomials::Row),
     /// Over the residues alone.
     Printed(printed::Row),
@@ -35,18 +37,16 @@ pub enum Row {
 }
 
 /// Whether the row holds over an extension of a ring.
-fn holds<F: Field, EF: ExtensionField<F> + ExtensionField<EF> + SelfAlgebra + MapFrom<EF> + Sample>(
-    alloc: Global,
-    row: Row,
-) -> Result<bool, AllocError>
+fn holds<
+    F: ExtensionField<F>,
+    EF: ExtensionField<F> + ExtensionField<EF> + SelfAlgebra + MapFrom<F> + MapFrom<EF> + Sample,
+>(alloc: Global, row: Row) -> Result<bool, AllocError>
     requires two_rounds_fit { 6 * type_size EF.row < 2 ^ 63 }
 {
     match row {
         Row::BatchInChunks => examples::adds_in_chunks::<F, EF>(alloc),
-        Row::Images => {
-            let (coordinates, numbers) = (&images::COORDINATES, &images::IMAGES);
-            images::are_numbers::<F, EF, EF>(alloc, coordinates, numbers)
-        }
+        Row::Images => images::are_numbers::<F, EF, EF>(alloc),
+        Row::ImagesOfBase => images::are_numbers::<F, F, EF>(alloc),
         Row::Polynomials(row) => polynomials::holds::<EF>(alloc, row),
         Row::Printed(_) => Ok(false),
         Row::Slices(row) => slices::holds::<EF>(alloc, row),
@@ -82,17 +82,6 @@ pub fn quartics(alloc: Global, row: Row) -> Result<bool, AllocError> {
 /// Whether the row holds over the residues modulo 2^64.
 pub fn words(alloc: Global, row: slices::Row) -> Result<bool, AllocError> {
     slices::holds::<Word>(alloc, row)
-}
-
-/// Whether 5 times the weights of the point have the images of these numbers in the quartic extension.
-pub fn residues_in_quartics(
-    alloc: Global,
-    coordinates: &[i32],
-    numbers: &[i32],
-) -> Result<bool, AllocError>
-    requires { length coordinates.now < 64 }
-{
-    images::are_numbers::<Residue, Residue, Quartic>(alloc, coordinates, numbers)
 }
 
 /// Whether 5 times the weights of the point have these images in the words.

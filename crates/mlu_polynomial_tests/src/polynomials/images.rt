@@ -1,7 +1,7 @@
 //! The images of split tables in another ring.
 ghost use Rattle.std.specs.Prelude.{◌<◌, length};
 
-use crate::rings::{Row, Word, quartics, residues_in_quartics, residues_in_words};
+use crate::rings::{Row, Word, quartics, residues_in_words};
 use mlu_ring::{ExtensionField, Field, MapFrom};
 use mlu_test_support::numbers::{element, elements};
 use mlu_test_tables::point;
@@ -10,19 +10,15 @@ use std::alloc::{AllocError, Global};
 use std::test::Fail;
 
 /// A point, and 5 times its weights.
-pub const COORDINATES: [i32; 3] = [2, 3, 5];
+const COORDINATES: [i32; 3] = [2, 3, 5];
 
-pub const IMAGES: [i32; 8] = [-40, 50, 60, -75, 80, -100, -120, 150];
+const IMAGES: [i32; 8] = [-40, 50, 60, -75, 80, -100, -120, 150];
 
-/// Whether 5 times the weights of the point have the images of these numbers.
+/// Whether 5 times the weights of the point have the images of their numbers.
 pub fn are_numbers<F: Field, R: ExtensionField<F>, S: ExtensionField<S> + MapFrom<R>>(
     alloc: Global,
-    coordinates: &[i32],
-    numbers: &[i32],
-) -> Result<bool, AllocError>
-    requires { length coordinates.now < 64 }
-{
-    are::<F, R, S>(alloc, coordinates, &elements::<S>(alloc, numbers)?)
+) -> Result<bool, AllocError> {
+    are::<F, R, S>(alloc, &COORDINATES, &elements::<S>(alloc, &IMAGES)?)
 }
 
 /// Whether 5 times the weights of the point, in either storage, have these images.
@@ -82,7 +78,7 @@ fn images_of_quartics(rt: HostRuntime) -> Result<(), Fail> {
 
 #[test]
 fn images_in_quartics(rt: HostRuntime) -> Result<(), Fail> {
-    assert!(rt; residues_in_quartics(rt.alloc(), &COORDINATES, &IMAGES)?);
+    assert!(rt; quartics(rt.alloc(), Row::ImagesOfBase)?);
     Ok(())
 }
 
